@@ -1,0 +1,132 @@
+-- "Rules for incoming calls": what an event that is taken does. "Messages of incoming calls bear leg 1."
+use Prim.Native.Nat.{ℕ, suc, _+_, _-_}
+use mathlib.Core.Bool.{Bool, _&&_}
+use lib.Dec.{leb, eqb}
+use Rattle.ground.specs.Choice.{when_then_else_}
+use Rattle.event.specs.declared.Event.{Event}
+use Rattle.notice.specs.Notice.{noNotice, noNumber, noHistory}
+use Rattle.call.specs.declared.Call.{Call}
+use Rattle.call.specs.declared.Message.{Message}
+use Rattle.call.specs.declared.Effect.{Effect}
+use Rattle.call.specs.Record.{requested, wait, undiverted, noDli1, freeCall}
+use Rattle.call.specs.Fields.{basic-is, cds-is, cdf-is, granted-is, identifier-is, reason-is, start-is}
+use Rattle.call.specs.Messages.{noCounter, alertingOn, connectOn, connectWithDli3, one, nothing, sending, silent}
+
+-- "2 open incoming", "3 open incoming with DLI2": "An open starts in Proceeding, services Idle, kind 3 in CDF Wait (its
+-- reason isn't kept), and sends nothing"
+abbrev pub openedIncoming : Event → Call
+openedIncoming e = record {
+  direction = 2;
+  basic = 1;
+  cdo = 0;
+  cdr = 0;
+  cds = 0;
+  cdf = when eqb (e .kind) 3 then 1 else 0;
+  granted = 0;
+  counter = e .counter;
+  party = 0;
+  waiting = noDli1;
+  history = noHistory;
+  own = e .first;
+  diverting = e .second;
+  original = e .third;
+  identifier = 0;
+  reason = 0;
+  start = 0;
+}
+
+-- "4: Proceeding becomes Received, ALERTING."
+abbrev pub alerted : Call → Effect
+alerted c = sending (basic-is 2 c) (one (alertingOn 1))
+
+-- "8: Idle, not granted": a request or grant with all that belongs to it is gone
+abbrev pub idle : Call → Call
+idle c = cds-is 0 (granted-is 0 (identifier-is 0 (reason-is 0 (start-is 0 c))))
+
+-- "DLI3 with the flag, and the own number only if allowed"
+abbrev pub ownIfAllowed : Call → Event → ℕ
+ownIfAllowed c e = when eqb (e .flag) 1 then c .own else 0
+
+-- "5: Proceeding or Received becomes Active, CONNECT; in Wait it carries DLI3 .., and CDF is done. .. Kind 5 ends an open
+-- cfnr request or grant (ours)."
+abbrev pub answered : Call → Event → Effect
+answered c e =
+    when wait c then sending (cdf-is 2 (basic-is 3 (idle c))) (one (connectWithDli3 1 (e .flag) (ownIfAllowed c e))) else
+    sending (basic-is 3 (idle c)) (one (connectOn 1))
+
+-- "counter plus 1"
+abbrev pub counterSent : Call → ℕ
+counterSent c = c .counter + 1
+
+-- "as original called number 0 if the sent counter is 1, else the stored original, or the diverting number if that is 0 (ours)"
+abbrev pub originalSent : Call → ℕ
+originalSent c =
+    when undiverted c then 0 else
+    when eqb (c .original) 0 then c .diverting else
+    c .original
+
+-- "Sends the callRerouting invoke with the event's reason, option and destination, counter plus 1, own number as last
+-- rerouting number, and as original called number .."
+abbrev pub invokeOf : Call → Event → ℕ → Message
+invokeOf c e identifier = record {
+  letter = 73;
+  leg = 1;
+  reason = e .reason;
+  option = e .option;
+  counter = counterSent c;
+  flag = 0;
+  identifier = identifier;
+  destination = e .second;
+  diverting = c .own;
+  original = originalSent c;
+  number = 0;
+}
+
+-- "Enters Requested, starts T1."
+abbrev pub asking : Call → Event → ℕ → Call
+asking c e identifier = cds-is 1 (reason-is (e .reason) (identifier-is identifier (start-is (e .time) c)))
+
+-- "6: .."
+abbrev pub diverted : Call → Event → ℕ → Effect
+diverted c e identifier = record {
+  call = asking c e identifier;
+  sent = one (invokeOf c e identifier);
+  notice = noNotice;
+  number = noNumber;
+  identifier = identifier;
+  counter = counterSent c;
+}
+
+-- "7: Idle, granted."
+abbrev pub grant : Call → Call
+grant c = cds-is 0 (granted-is 1 (identifier-is 0 (start-is 0 c)))
+
+-- T1's length: "time minus start at least 10,000"
+abbrev pub t1 : ℕ
+t1 = 10000
+
+-- "of the records Requested with time minus start at least 10,000"
+abbrev pub due : ℕ → Call → Bool
+due time c = requested c && leb t1 (time - c .start)
+
+-- "the lowest ends as by a reject and the answer names call and identifier"
+abbrev pub expired : Call → Effect
+expired c = record {
+  call = idle c;
+  sent = nothing;
+  notice = noNotice;
+  number = noNumber;
+  identifier = c .identifier;
+  counter = noCounter;
+}
+
+-- "4" to "9" and "15"; "9: .. clears it"; "15 nothing; the record is free and its request ended"
+unfoldable pub actIncoming : Call → Event → ℕ → Effect
+actIncoming c e identifier =
+    when eqb (e .kind) 4 then alerted c else
+    when eqb (e .kind) 5 then answered c e else
+    when eqb (e .kind) 6 then diverted c e identifier else
+    when eqb (e .kind) 7 then silent (grant c) else
+    when eqb (e .kind) 8 then silent (idle c) else
+    when eqb (e .kind) 9 then silent (idle c) else
+    silent freeCall

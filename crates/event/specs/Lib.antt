@@ -1,0 +1,3 @@
+pub mod Kinds
+pub mod Record
+pub mod WellMade

@@ -1,0 +1,224 @@
+// Event records: 24 bytes each, big-endian, well made or not.
+ghost use mathlib.Core.Path.{_≡_};
+ghost use Prim.Native.Nat.{ℕ, _+_, _≤_, _<_};
+ghost use Rattle.event.specs.Record.{eventAt};
+ghost use Rattle.event.specs.WellMade.{openFields, openDivertedFields, callOnly, answerFields, divertFields, outcomeFields, clockFields, reroutingFields, dli1Fields, messageFields, wellMade};
+
+// One event; a field that its kind doesn't use is 0.
+#[repr(C)]
+pub struct Event {
+    pub kind: u8,
+    pub call: u8,
+    pub leg: u8,
+    pub message: u8,
+    pub reason: u8,
+    pub option: u8,
+    pub counter: u8,
+    pub flag: u8,
+    pub identifier: u16,
+    pub first: u16,
+    pub second: u16,
+    pub third: u16,
+    pub time: u64,
+}
+
+// The event whose 24 bytes start at i.
+pub fn event_at(bytes: &[u8], i: usize) -> Event
+    requires { do ⌜ i + 24 ≤ (← ⟦bytes.len()⟧) ⌝ }
+    ensures { λ r. ⌜ r ≡ eventAt (now (bytes .entry)) i ⌝ }
+{
+    let identifier = ground::word_at(bytes, i + 8);
+    let first = ground::word_at(bytes, i + 10);
+    let second = ground::word_at(bytes, i + 12);
+    let third = ground::word_at(bytes, i + 14);
+    let time = ground::long_at(bytes, i + 16);
+    Event {
+        kind: bytes[i],
+        call: bytes[i + 1],
+        leg: bytes[i + 2],
+        message: bytes[i + 3],
+        reason: bytes[i + 4],
+        option: bytes[i + 5],
+        counter: bytes[i + 6],
+        flag: bytes[i + 7],
+        identifier: identifier,
+        first: first,
+        second: second,
+        third: third,
+        time: time,
+    }
+}
+
+fn open_fields(e: Event) -> bool
+    ensures { λ r. ⌜ r ≡ openFields e ⌝ }
+{
+    (e.call == 0)
+        & (e.leg == 0)
+        & (e.message == 0)
+        & (e.reason == 0)
+        & (e.option == 0)
+        & (e.counter == 0)
+        & (e.flag == 0)
+        & (e.identifier == 0)
+        & !(e.first == 0)
+        & (e.second == 0)
+        & (e.third == 0)
+}
+
+fn open_diverted_fields(e: Event) -> bool
+    ensures { λ r. ⌜ r ≡ openDivertedFields e ⌝ }
+{
+    (e.call == 0)
+        & (e.leg == 0)
+        & (e.message == 0)
+        & (e.reason <= 3)
+        & (e.option == 0)
+        & (1 <= e.counter)
+        & (e.counter <= 15)
+        & (e.flag == 0)
+        & (e.identifier == 0)
+        & !(e.first == 0)
+}
+
+fn call_only(e: Event) -> bool
+    ensures { λ r. ⌜ r ≡ callOnly e ⌝ }
+{
+    (e.leg == 0)
+        & (e.message == 0)
+        & (e.reason == 0)
+        & (e.option == 0)
+        & (e.counter == 0)
+        & (e.flag == 0)
+        & (e.identifier == 0)
+        & (e.first == 0)
+        & (e.second == 0)
+        & (e.third == 0)
+}
+
+fn answer_fields(e: Event) -> bool
+    ensures { λ r. ⌜ r ≡ answerFields e ⌝ }
+{
+    (e.leg == 0)
+        & (e.message == 0)
+        & (e.reason == 0)
+        & (e.option == 0)
+        & (e.counter == 0)
+        & (e.flag <= 1)
+        & (e.identifier == 0)
+        & (e.first == 0)
+        & (e.second == 0)
+        & (e.third == 0)
+}
+
+fn divert_fields(e: Event) -> bool
+    ensures { λ r. ⌜ r ≡ divertFields e ⌝ }
+{
+    (e.leg == 0)
+        & (e.message == 0)
+        & (1 <= e.reason)
+        & (e.reason <= 3)
+        & (e.option <= 2)
+        & (e.counter == 0)
+        & (e.flag == 0)
+        & (e.identifier == 0)
+        & (e.first == 0)
+        & !(e.second == 0)
+        & (e.third == 0)
+}
+
+fn outcome_fields(e: Event) -> bool
+    ensures { λ r. ⌜ r ≡ outcomeFields e ⌝ }
+{
+    (e.leg == 0)
+        & (e.message == 0)
+        & (e.reason == 0)
+        & (e.option == 0)
+        & (e.counter == 0)
+        & (e.flag == 0)
+        & (e.first == 0)
+        & (e.second == 0)
+        & (e.third == 0)
+}
+
+fn clock_fields(e: Event) -> bool
+    ensures { λ r. ⌜ r ≡ clockFields e ⌝ }
+{
+    (e.call == 0)
+        & (e.leg == 0)
+        & (e.message == 0)
+        & (e.reason == 0)
+        & (e.option == 0)
+        & (e.counter == 0)
+        & (e.flag == 0)
+        & (e.identifier == 0)
+        & (e.first == 0)
+        & (e.second == 0)
+        & (e.third == 0)
+}
+
+fn rerouting_fields(e: Event) -> bool
+    ensures { λ r. ⌜ r ≡ reroutingFields e ⌝ }
+{
+    (1 <= e.leg)
+        & (e.leg <= 2)
+        & (e.message == 0)
+        & (1 <= e.reason)
+        & (e.reason <= 3)
+        & (e.option <= 2)
+        & (1 <= e.counter)
+        & (e.counter <= 15)
+        & (e.flag == 0)
+        & (e.first == 0)
+        & !(e.second == 0)
+}
+
+fn dli1_fields(e: Event) -> bool
+    ensures { λ r. ⌜ r ≡ dli1Fields e ⌝ }
+{
+    (e.leg == 0)
+        & (e.message == 0)
+        & (e.reason <= 3)
+        & (e.option <= 2)
+        & (e.counter == 0)
+        & (e.flag == 0)
+        & (e.identifier == 0)
+        & (e.first == 0)
+        & !(e.second == 0)
+        & (e.third == 0)
+}
+
+fn message_fields(e: Event) -> bool
+    ensures { λ r. ⌜ r ≡ messageFields e ⌝ }
+{
+    (1 <= e.leg)
+        & (e.leg <= 2)
+        & (1 <= e.message)
+        & (e.message <= 4)
+        & (e.reason == 0)
+        & (e.option == 0)
+        & (e.counter == 0)
+        & (e.flag <= 2)
+        & (e.identifier == 0)
+        & (e.first == 0)
+        & (e.third == 0)
+        & (!(e.flag == 0) | (e.second == 0))
+        & (!(e.message == 1) | !(e.flag == 0))
+        & (!(e.message == 4) | (e.flag == 0))
+}
+
+// The kind is one of the table, and each field is as its row says.
+pub fn well_made(e: Event) -> bool
+    ensures { λ r. ⌜ r ≡ wellMade e ⌝ }
+{
+    let k = e.kind;
+    (((k == 1) | (k == 2)) & open_fields(e))
+        | ((k == 3) & open_diverted_fields(e))
+        | (((k == 4) | (k == 9) | (k == 11) | (k == 15)) & call_only(e))
+        | ((k == 5) & answer_fields(e))
+        | ((k == 6) & divert_fields(e))
+        | (((k == 7) | (k == 8)) & outcome_fields(e))
+        | ((k == 10) & clock_fields(e))
+        | ((k == 12) & rerouting_fields(e))
+        | ((k == 13) & dli1_fields(e))
+        | ((k == 14) & message_fields(e))
+}

@@ -1,0 +1,4 @@
+pub mod Bools
+pub mod Ways
+pub mod Walks
+pub mod Pointwise

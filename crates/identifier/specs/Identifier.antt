@@ -1,0 +1,35 @@
+-- "The request takes the first identifier from the next one on that no open request has; the one after it is next, and
+-- the number after 65,535 is 0."
+use Prim.Native.Nat.{ℕ, zero, suc, _+_, _%_}
+use mathlib.Core.Bool.{Bool, true, _&&_, not}
+use mathlib.Core.List.{List, [], _∷_}
+use lib.Dec.{eqb}
+use Rattle.ground.specs.Choice.{when_then_else_}
+use Rattle.ground.specs.Lists.{any}
+
+-- "the number after 65,535 is 0"
+abbrev pub after : ℕ → ℕ
+after identifier = (identifier + 1) % 65536
+
+-- some open request has it
+abbrev pub taken : List ℕ → ℕ → Bool
+taken held identifier = any (eqb identifier) held
+
+-- "no two Requested records share an identifier"
+unfoldable pub distinct : List ℕ → Bool
+distinct [] = true
+distinct (identifier ∷ rest) = not (taken rest identifier) && distinct rest
+
+-- the first of so many candidates from one on that no open request has; where all are taken, the one after them
+unfoldable pub firstFree : ℕ → List ℕ → ℕ → ℕ
+firstFree zero held candidate = candidate
+firstFree (suc more) held candidate =
+    let later = firstFree more held (after candidate) in
+    when taken held candidate then later else candidate
+
+-- at most 64 requests are open, so one of 65 candidates is free
+abbrev pub candidates : ℕ
+candidates = 65
+
+abbrev pub drawn : List ℕ → ℕ → ℕ
+drawn held next = firstFree candidates held next

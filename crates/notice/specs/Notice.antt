@@ -1,0 +1,83 @@
+-- "Rules for outgoing calls", the sentences on DLI1 and DLI3.
+use Prim.Native.Nat.{ℕ, min}
+use mathlib.Core.Bool.{Bool, _&&_, not}
+use lib.Dec.{eqb}
+use Rattle.ground.specs.Choice.{when_then_else_}
+use Rattle.notice.specs.declared.Dli1.{Dli1}
+use Rattle.notice.specs.declared.History.{History}
+use Rattle.notice.specs.declared.Noticed.{Noticed}
+use Rattle.notice.specs.declared.Shown.{Shown}
+
+-- no notice: "None is not 0", since notice 0 is reason unknown
+abbrev pub noNotice : ℕ
+noNotice = 255
+
+-- no number: "0 means absent"
+abbrev pub noNumber : ℕ
+noNumber = 0
+
+-- flags of kind 14: "1 DLI3 allowed, 2 DLI3 forbidden"
+abbrev pub allowed : ℕ
+allowed = 1
+
+abbrev pub forbidden : ℕ
+forbidden = 2
+
+-- "DLI1 seen"
+abbrev pub seen : History → Bool
+seen h = eqb (h .seen) 1
+
+-- "It is all 0 before the first DLI1"
+abbrev pub noHistory : History
+noHistory = record { seen = 0; strictest = 0; forbidden = 0; shown = 0; nominated = 0 }
+
+-- "strictest option", of those so far and one more: "a smaller one is stricter"; the first of a call sets it
+abbrev pub strictestWith : History → ℕ → ℕ
+strictestWith h option = when seen h then min (h .strictest) option else option
+
+-- "The first of a call gives a notice unless its option is 0. A later one gives a notice exactly if its reason is cfnr
+-- and no option so far is 0."
+abbrev pub givesNotice : History → Dli1 → Bool
+givesNotice h d =
+    when seen h then eqb (d .reason) 3 && not (eqb (strictestWith h (d .option)) 0) else
+    not (eqb (d .option) 0)
+
+-- "The notice is the reason."
+abbrev pub noticeOf : History → Dli1 → ℕ
+noticeOf h d = when givesNotice h d then d .reason else noNotice
+
+abbrev pub afterDli1 : History → Dli1 → History
+afterDli1 h d = record {
+  seen = 1;
+  strictest = strictestWith h (d .option);
+  forbidden = h .forbidden;
+  shown = h .shown;
+  nominated = d .number;
+}
+
+abbrev pub takeDli1 : History → Dli1 → Noticed
+takeDli1 h d = record { notice = noticeOf h d; history = afterDli1 h d }
+
+-- "DLI3 in Divert shows its number .. exactly if every option so far is 2, every DLI3 so far is allowed and no number
+-- has been shown in this call."
+abbrev pub mayShow : History → ℕ → Bool
+mayShow h flag = eqb flag allowed && eqb (h .strictest) 2 && eqb (h .forbidden) 0 && eqb (h .shown) 0
+
+-- "its number, or the last nominated one if absent"
+abbrev pub numberShown : History → ℕ → ℕ → ℕ
+numberShown h flag number =
+    when mayShow h flag then (when eqb number 0 then h .nominated else number) else
+    noNumber
+
+abbrev pub afterDli3 : History → ℕ → History
+afterDli3 h flag = record {
+  seen = h .seen;
+  strictest = h .strictest;
+  forbidden = when eqb flag forbidden then 1 else h .forbidden;
+  shown = when mayShow h flag then 1 else h .shown;
+  nominated = h .nominated;
+}
+
+-- flag 0 is no DLI3: nothing is shown and the history stays
+abbrev pub takeDli3 : History → ℕ → ℕ → Shown
+takeDli3 h flag number = record { number = numberShown h flag number; history = afterDli3 h flag }

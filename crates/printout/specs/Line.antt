@@ -1,0 +1,71 @@
+-- "The panel printout": "prints a line each: position from 0, answer number, call, notice (its reason), number, identifier,
+-- counter, messages; `-` for none."
+use Prim.Native.Nat.{ℕ, zero, suc, _+_, _/_, _%_}
+use mathlib.Core.List.{List, [], _∷_, _++_}
+use lib.Dec.{ltb, eqb}
+use Rattle.ground.specs.Choice.{when_then_else_}
+use Rattle.event.specs.declared.Event.{Event}
+use Rattle.notice.specs.Notice.{noNotice, noNumber}
+use Rattle.call.specs.declared.Call.{Call}
+use Rattle.call.specs.declared.Message.{Message}
+use Rattle.call.specs.declared.Sent.{Sent}
+use Rattle.call.specs.Messages.{noIdentifier, noCounter}
+use Rattle.station.specs.declared.Station.{Station}
+use Rattle.station.specs.declared.Answer.{Answer}
+use Rattle.station.specs.Station.{noCall}
+use Rattle.station.specs.Step.{Outcome, step}
+
+-- characters are their ASCII numbers
+abbrev pub digit : ℕ → ℕ
+digit n = 48 + n
+
+abbrev pub space : List ℕ
+space = 32 ∷ []
+
+abbrev pub newline : List ℕ
+newline = 10 ∷ []
+
+abbrev pub dash : List ℕ
+dash = 45 ∷ []
+
+-- the last so many decimal digits that a number needs
+unfoldable pub digits : ℕ → ℕ → List ℕ
+digits zero n = []
+digits (suc more) n =
+    let higher = digits more (n / 10) in
+    when ltb n 10 then digit n ∷ [] else higher ++ (digit (n % 10) ∷ [])
+
+-- a number in decimal: 64 bits want at most 20 digits
+abbrev pub decimal : ℕ → List ℕ
+decimal n = digits 20 n
+
+-- a column: its value, or a dash for none
+abbrev pub column : ℕ → ℕ → List ℕ
+column none n = when eqb n none then dash else decimal n
+
+-- "Letters, with leg"
+abbrev pub letterWithLeg : Message → List ℕ
+letterWithLeg m = when eqb (m .letter) 0 then [] else m .letter ∷ digit (m .leg) ∷ []
+
+abbrev pub messages : Sent → List ℕ
+messages sent =
+    when eqb (sent .first .letter) 0 then dash else
+    letterWithLeg (sent .first) ++ letterWithLeg (sent .second) ++ letterWithLeg (sent .third)
+
+-- one line
+unfoldable pub line : ℕ → Answer → List ℕ
+line position a =
+    decimal position ++ space ++ decimal (a .code) ++ space ++ column noCall (a .call) ++ space ++ column noNotice (a .notice)
+    ++ space ++ column noNumber (a .number) ++ space ++ column noIdentifier (a .identifier) ++ space
+    ++ column noCounter (a .counter) ++ space ++ messages (a .sent) ++ newline
+
+-- "A cut last record prints `cut` and its byte count."
+abbrev pub cutLine : ℕ → List ℕ
+cutLine count = 99 ∷ 117 ∷ 116 ∷ 32 ∷ decimal count ++ newline
+
+-- the lines of a list of events from a position on
+unfoldable pub printed : ℕ → Station → List Call → List Event → List (List ℕ)
+printed position s calls [] = []
+printed position s calls (e ∷ rest) =
+    let o = step s calls e in
+    line position (o .answer) ∷ printed (suc position) (o .station) (o .calls) rest

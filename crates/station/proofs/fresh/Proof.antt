@@ -1,0 +1,6 @@
+use Rattle.ground.proofs.Ways.{ways}
+use Rattle.station.proofs.fresh.Statement.{statement}
+use Rattle.station.proofs.fresh.Tie as tie
+
+pub fresh-spec : {M : Type 1} → statement M
+fresh-spec = tie.close (tie.spec (λ c. search ways) (λ c. search ways))

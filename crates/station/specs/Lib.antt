@@ -1,0 +1,4 @@
+pub mod Station
+pub mod Table
+pub mod Refusals
+pub mod Step

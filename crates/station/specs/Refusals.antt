@@ -1,0 +1,71 @@
+-- "Numbers of the answers, tested in this order"
+use Prim.Native.Nat.{ℕ, _+_}
+use mathlib.Core.Bool.{Bool, false, _&&_, _||_, not}
+use mathlib.Core.List.{List}
+use lib.Dec.{ltb, leb, eqb}
+use lib.ListN.{length}
+use Rattle.ground.specs.Choice.{when_then_else_}
+use Rattle.ground.specs.Lists.{first}
+use Rattle.event.specs.declared.Event.{Event}
+use Rattle.event.specs.Kinds.{opens, ofIncoming, ofOutgoing, diverts, answersRequest, ends}
+use Rattle.event.specs.WellMade.{wellMade}
+use Rattle.call.specs.declared.Call.{Call}
+use Rattle.call.specs.Record.{isFree, isOutgoing, isIncoming}
+use Rattle.call.specs.State.{stateForbids}
+use Rattle.call.specs.Incoming.{counterSent}
+use Rattle.station.specs.declared.Station.{Station}
+use Rattle.station.specs.Table.{at, sound}
+
+-- "1: table empty, over 64 records or not sound, or limit outside 1 to 15"
+abbrev pub notSound : Station → List Call → Bool
+notSound s calls = not (sound s calls)
+
+-- "2: time before the last time"
+abbrev pub early : Station → Event → Bool
+early s e = ltb (e .time) (s .last)
+
+-- "3: kind outside 1 to 15, a field against the table above"
+abbrev pub illMade : Event → Bool
+illMade e = not (wellMade e)
+
+-- "free, or of the other direction (4 to 9, 15 incoming; 12 to 14 outgoing; 11 either)"
+abbrev pub wrongCall : Call → Event → Bool
+wrongCall c e =
+    (ofIncoming e && not (isIncoming c)) || (ofOutgoing e && not (isOutgoing c)) || (ends e && isFree c)
+
+-- "4: call past the table's end, free, or of the other direction"
+abbrev pub noSuchCall : List Call → Event → Bool
+noSuchCall calls e =
+    ((ofIncoming e || ofOutgoing e || ends e) && leb (length calls) (e .call)) || wrongCall (at calls (e .call)) e
+
+-- "5: The state rules below don't take the event"
+abbrev pub notTaken : List Call → Event → Bool
+notTaken calls e = stateForbids (at calls (e .call)) e
+
+-- "6: kind 7 or 8: not the identifier of that call's open request"
+abbrev pub otherIdentifier : Call → Event → Bool
+otherIdentifier c e = answersRequest e && not (eqb (e .identifier) (c .identifier))
+
+-- "7: kind 6: counter plus 1 exceeds the limit"
+abbrev pub overLimit : Station → Call → Event → Bool
+overLimit s c e = diverts e && ltb (s .limit) (counterSent c)
+
+-- "8: kind 1 to 3: no free record"
+abbrev pub noFreeRecord : List Call → Event → Bool
+noFreeRecord calls e = opens e && leb (length calls) (first isFree calls)
+
+-- numbers 2 to 8, or 0: what is left where the table was found sound
+unfoldable pub refusalOnSound : Station → List Call → Event → ℕ
+refusalOnSound s calls e =
+    when early s e then 2 else
+    when illMade e then 3 else
+    when noSuchCall calls e then 4 else
+    when notTaken calls e then 5 else
+    when otherIdentifier (at calls (e .call)) e then 6 else
+    when overLimit s (at calls (e .call)) e then 7 else
+    when noFreeRecord calls e then 8 else
+    0
+
+-- the number of the answer
+unfoldable pub refusal : Station → List Call → Event → ℕ
+refusal s calls e = when notSound s calls then 1 else refusalOnSound s calls e

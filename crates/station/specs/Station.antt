@@ -1,0 +1,50 @@
+-- "The station and its work": what a station keeps, how it starts, and what an answer holds.
+use Prim.Native.Nat.{ℕ}
+use mathlib.Core.Bool.{Bool, _&&_}
+use lib.Dec.{leb}
+use Rattle.ground.specs.Choice.{when_then_else_}
+use Rattle.notice.specs.Notice.{noNotice, noNumber}
+use Rattle.call.specs.Messages.{noIdentifier, noCounter, nothing}
+use Rattle.station.specs.declared.Station.{Station}
+use Rattle.station.specs.declared.Answer.{Answer}
+use Rattle.station.specs.declared.Made.{Made}
+
+-- "its diversion limit (1 to 15)"
+abbrev pub limitOk : ℕ → Bool
+limitOk limit = leb 1 limit && leb limit 15
+
+-- "Fresh means last time 0, next identifier 65,535."
+abbrev pub freshStation : ℕ → Station
+freshStation limit = record { last = 0; next = 65535; limit = limit }
+
+abbrev pub noStation : Station
+noStation = record { last = 0; next = 0; limit = 0 }
+
+-- "A fresh station takes a limit"; "3: .. a fresh station's limit outside 1 to 15 (no station is made)"
+abbrev pub freshOf : ℕ → Made
+freshOf limit =
+    when limitOk limit then record { code = 0; station = freshStation limit } else
+    record { code = 3; station = noStation }
+
+-- "the short form uses 15"
+abbrev pub shortLimit : ℕ
+shortLimit = 15
+
+abbrev pub shortForm : Station
+shortForm = freshStation shortLimit
+
+-- no call: 0 is one
+abbrev pub noCall : ℕ
+noCall = 255
+
+-- "A refusal's answer is its number and otherwise empty"; so is that of a clock event with none due
+abbrev pub emptyAnswer : ℕ → Answer
+emptyAnswer code = record {
+  code = code;
+  call = noCall;
+  sent = nothing;
+  notice = noNotice;
+  number = noNumber;
+  identifier = noIdentifier;
+  counter = noCounter;
+}

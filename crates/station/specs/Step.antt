@@ -1,0 +1,109 @@
+-- One event, and a list of them.
+use Prim.Native.Nat.{ℕ, suc, _+_}
+use mathlib.Core.Bool.{Bool}
+use mathlib.Core.List.{List, [], _∷_}
+use lib.Dec.{ltb, eqb}
+use lib.ListN.{length, set}
+use Rattle.ground.specs.Choice.{when_then_else_}
+use Rattle.event.specs.declared.Event.{Event}
+use Rattle.event.specs.Kinds.{diverts}
+use Rattle.identifier.specs.Identifier.{after}
+use Rattle.call.specs.declared.Call.{Call}
+use Rattle.call.specs.declared.Effect.{Effect}
+use Rattle.call.specs.Act.{act}
+use Rattle.station.specs.declared.Station.{Station}
+use Rattle.station.specs.declared.Answer.{Answer}
+use Rattle.station.specs.Station.{emptyAnswer}
+use Rattle.station.specs.Table.{at, identifierFor, place}
+use Rattle.station.specs.Refusals.{refusal, refusalOnSound}
+
+-- the answer to an event, and the station and the records after it
+pub record Outcome : Type 0 where
+  pub answer : Answer
+  pub station : Station
+  pub calls : List Call
+
+-- "A refusal's answer is its number and otherwise empty; records and station stay."
+abbrev pub refused : Station → List Call → ℕ → Outcome
+refused s calls code = record { answer = emptyAnswer code; station = s; calls = calls }
+
+-- "the one after it is next"
+abbrev pub nextAfter : Station → List Call → Event → ℕ
+nextAfter s calls e = when diverts e then after (identifierFor s calls) else s .next
+
+-- "A done event makes its time the last time."
+abbrev pub stationAfter : Station → List Call → Event → Station
+stationAfter s calls e = record { last = e .time; next = nextAfter s calls e; limit = s .limit }
+
+-- "Its answer holds the call, up to three messages with leg and arguments .., notice and number for the caller, and an
+-- identifier and counter where a message has them"
+abbrev pub answerOf : ℕ → Effect → Answer
+answerOf i x = record {
+  code = 0;
+  call = i;
+  sent = x .sent;
+  notice = x .notice;
+  number = x .number;
+  identifier = x .identifier;
+  counter = x .counter;
+}
+
+-- "With none due, the answer has no call."
+abbrev pub noneDue : Station → List Call → Event → Outcome
+noneDue s calls e = record { answer = emptyAnswer 0; station = stationAfter s calls e; calls = calls }
+
+-- the effect on the record at a place
+abbrev pub effectAt : Station → List Call → Event → ℕ → Effect
+effectAt s calls e i = act (at calls i) e (identifierFor s calls)
+
+-- the record at a place after its effect, and the answer
+abbrev pub settled : Station → List Call → Event → ℕ → Effect → Outcome
+settled s calls e i x = record { answer = answerOf i x; station = stationAfter s calls e; calls = set calls i (x .call) }
+
+-- "0: done"
+unfoldable pub done : Station → List Call → Event → Outcome
+done s calls e =
+    when ltb (place calls e) (length calls) then settled s calls e (place calls e) (effectAt s calls e (place calls e)) else
+    noneDue s calls e
+
+-- done where the number is 0, else refused with it
+unfoldable pub byNumber : Station → List Call → Event → ℕ → Outcome
+byNumber s calls e code = when eqb code 0 then done s calls e else refused s calls code
+
+-- one event
+unfoldable pub step : Station → List Call → Event → Outcome
+step s calls e = byNumber s calls e (refusal s calls e)
+
+-- one event where the table was found sound: the same, without that test
+unfoldable pub stepOnSound : Station → List Call → Event → Outcome
+stepOnSound s calls e = byNumber s calls e (refusalOnSound s calls e)
+
+-- "event lists": the outcome of each event, in order, each on what the one before it left
+unfoldable pub outcomes : Station → List Call → List Event → List Outcome
+outcomes s calls [] = []
+outcomes s calls (e ∷ rest) = let o = step s calls e in o ∷ outcomes (o .station) (o .calls) rest
+
+-- what a run of a list leaves, and how many events were done and how many refused
+pub record Ran : Type 0 where
+  pub done : ℕ
+  pub refused : ℕ
+  pub station : Station
+  pub calls : List Call
+
+abbrev pub counted : Ran → Outcome → Ran
+counted r o = record {
+  done = when eqb (o .answer .code) 0 then r .done + 1 else r .done;
+  refused = when eqb (o .answer .code) 0 then r .refused else r .refused + 1;
+  station = o .station;
+  calls = o .calls;
+}
+
+abbrev pub runStep : Ran → Event → Ran
+runStep r e = counted r (step (r .station) (r .calls) e)
+
+unfoldable pub runOn : Ran → List Event → Ran
+runOn r [] = r
+runOn r (e ∷ rest) = runOn (runStep r e) rest
+
+abbrev pub run : Station → List Call → List Event → Ran
+run s calls events = runOn (record { done = 0; refused = 0; station = s; calls = calls }) events
