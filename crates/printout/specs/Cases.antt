@@ -1,16 +1,86 @@
 -- "Marked P: the nine lines above; counter 14 and limit 15 diverts with 15; counter 15 is 7; 65 records is 1."
 use Prim.Native.Nat.{ℕ}
-use Prim.Native.String.{String, [], _∷_}
+use Prim.Native.String as text
+use Prim.Native.String.{String}
 use Prim.Native.Char.{code}
-use mathlib.Core.List.{List, _++_}
-use mathlib.Core.List as list
+use mathlib.Core.List.{List, [], _∷_, _++_, map}
 use lib.ListN.{replicate}
 use Rattle.event.specs.declared.Event.{Event}
+use Rattle.call.specs.declared.Call.{Call}
 use Rattle.call.specs.Record.{freeCall}
-use Rattle.station.specs.Station.{shortForm}
+use Rattle.station.specs.Station.{freshStation}
 use Rattle.printout.specs.Line.{printed}
 
 -- the characters of a text
 unfoldable pub charactersOf : String → List ℕ
-charactersOf [] = list.[]
-charactersOf (c ∷ rest) = list._∷_ (code c) (charactersOf rest)
+charactersOf text.[] = []
+charactersOf (text._∷_ c rest) = code c ∷ charactersOf rest
+
+-- an event by its kind, call, leg, message, reason, option, counter, flag; identifier, first, second, third number; time
+abbrev pub event : ℕ → ℕ → ℕ → ℕ → ℕ → ℕ → ℕ → ℕ → ℕ → ℕ → ℕ → ℕ → ℕ → Event
+event kind call leg message reason option counter flag identifier first second third time = record {
+  kind = kind;
+  call = call;
+  leg = leg;
+  message = message;
+  reason = reason;
+  option = option;
+  counter = counter;
+  flag = flag;
+  identifier = identifier;
+  first = first;
+  second = second;
+  third = third;
+  time = time;
+}
+
+-- "Input: kind 1 (party 101, time 1); 12 (call 0, leg 1, cfu, option 2, counter 1, identifier 9, destination 207, time 2);
+-- 14 (call 0, leg 1, CONNECT, flag 1, time 3); 2 (102, time 4); 6 (call 1, cfu, option 0, destination 300, time 1000);
+-- 10 (10999); 10 (11000); 6 as before (11001); 7 (call 1, identifier 65535, 11002)."
+abbrev pub nineEvents : List Event
+nineEvents =
+    event 1 0 0 0 0 0 0 0 0 101 0 0 1
+    ∷ event 12 0 1 0 1 2 1 0 9 0 207 0 2
+    ∷ event 14 0 1 3 0 0 0 1 0 0 0 0 3
+    ∷ event 2 0 0 0 0 0 0 0 0 102 0 0 4
+    ∷ event 6 1 0 0 1 0 0 0 0 0 300 0 1000
+    ∷ event 10 0 0 0 0 0 0 0 0 0 0 0 10999
+    ∷ event 10 0 0 0 0 0 0 0 0 0 0 0 11000
+    ∷ event 6 1 0 0 1 0 0 0 0 0 300 0 11001
+    ∷ event 7 1 0 0 0 0 0 0 65535 0 0 0 11002
+    ∷ []
+
+-- an incoming call with a counter, then its diversion
+abbrev pub divertedAt : ℕ → List Event
+divertedAt counter = event 3 0 0 0 0 0 counter 0 0 101 102 0 1 ∷ event 6 0 0 0 1 0 0 0 0 0 300 0 2 ∷ []
+
+-- the lines that a fresh station of limit 15 prints on so many free records
+abbrev pub linesOn : ℕ → List Event → List (List ℕ)
+linesOn records events = printed 0 (freshStation 15) (replicate records freeCall) events
+
+-- the one list of the cases marked P
+abbrev pub casesP : List (List ℕ)
+casesP = linesOn 64 nineEvents ++ linesOn 64 (divertedAt 14) ++ linesOn 64 (divertedAt 15) ++ linesOn 65 (divertedAt 14)
+
+abbrev pub expectedP : List (List ℕ)
+expectedP =
+    map charactersOf
+    ("0 0 0 - - - - -\n"
+    ∷ "1 0 0 1 - 9 1 R1X1S1\n"
+    ∷ "2 0 0 - 207 - - -\n"
+    ∷ "3 0 1 - - - - -\n"
+    ∷ "4 0 1 - - 65535 1 I1\n"
+    ∷ "5 0 - - - - - -\n"
+    ∷ "6 0 1 - - 65535 - -\n"
+    ∷ "7 0 1 - - 0 1 I1\n"
+    ∷ "8 6 - - - - - -\n"
+    -- counter 14 and limit 15 diverts with 15
+    ∷ "0 0 0 - - - - -\n"
+    ∷ "1 0 0 - - 65535 15 I1\n"
+    -- counter 15 is 7
+    ∷ "0 0 0 - - - - -\n"
+    ∷ "1 7 - - - - - -\n"
+    -- 65 records is 1
+    ∷ "0 1 - - - - - -\n"
+    ∷ "1 1 - - - - - -\n"
+    ∷ [])

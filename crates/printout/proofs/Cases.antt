@@ -1,0 +1,19 @@
+-- The cases marked P, computed by the definition. Assumes nothing.
+use mathlib.Core.Path.{_≡_, refl}
+use Rattle.ground.specs.Lists.{first, all, any}
+use Rattle.event.specs.WellMade.{wellMade}
+use Rattle.identifier.specs.Identifier.{distinct, firstFree}
+use Rattle.call.specs.Soundness.{soundOutgoing, soundIncoming, soundCall}
+use Rattle.call.specs.State.{stateForbids}
+use Rattle.call.specs.Incoming.{actIncoming}
+use Rattle.call.specs.Outgoing.{actOutgoing}
+use Rattle.call.specs.Act.{act}
+use Rattle.station.specs.Table.{requestsOf, sound}
+use Rattle.station.specs.Refusals.{refusalOnSound, refusal}
+use Rattle.station.specs.Step.{done, byNumber, step}
+use Rattle.printout.specs.Line.{digits, line, printed}
+use Rattle.printout.specs.Cases.{charactersOf, casesP, expectedP}
+
+pub cases-p : casesP ≡ expectedP
+unfolding first all any wellMade distinct firstFree soundOutgoing soundIncoming soundCall stateForbids actIncoming actOutgoing act requestsOf sound refusalOnSound refusal done byNumber step digits line printed charactersOf
+cases-p = refl

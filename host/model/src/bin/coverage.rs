@@ -1,0 +1,115 @@
+//! Counts what the generators meet: answers by kind, the shapes of done
+//! answers, identifiers passed over, and the sentences that damage breaks.
+#![forbid(unsafe_code)]
+
+use model::{codes, lent, profile, random::Random, sound, step, Answer, Event, Record, Station};
+use std::collections::BTreeMap;
+
+const EVENTS: usize = 20_000;
+const CASES: usize = 100_000;
+const LENT_WALKS: u64 = 400;
+const LENT_EVENTS: usize = 100;
+
+/// Counts by answer number (rows) and kind (columns; 16 is any other).
+#[derive(Default)]
+struct Counts {
+    codes: [[u32; 17]; 9],
+    shapes: BTreeMap<String, u32>,
+    passed_over: u32,
+}
+
+impl Counts {
+    fn add(&mut self, next: u16, event: &Event, answer: &Answer) {
+        let kind = usize::from(event.kind.min(16));
+        self.codes[usize::from(answer.code)][kind] += 1;
+        if answer.code != 0 {
+            return;
+        }
+        if event.kind == codes::USER_DIVERTS && answer.identifier != Some(next) {
+            self.passed_over += 1;
+        }
+        let line = answer.to_string();
+        let messages = line.rsplit(' ').next().unwrap_or("-");
+        let notice = answer.notice.map_or("no-notice", |_| "notice");
+        let number = answer.number.map_or("no-number", |_| "number");
+        let shape = format!("{:>2} {notice} {number} {messages}", event.kind);
+        *self.shapes.entry(shape).or_default() += 1;
+    }
+
+    /// Runs the walk that many events.
+    fn follow(&mut self, mut walk: profile::Walk, events: usize) {
+        for _ in 0..events {
+            let next = walk.station.next_identifier;
+            let (event, answer) = walk.advance();
+            self.add(next, &event, &answer);
+        }
+    }
+
+    fn print(&self, name: &str) {
+        println!("{name}: answer by kind 0 to 15 and other");
+        for (code, row) in self.codes.iter().enumerate() {
+            let cells: String = row.iter().map(|count| format!("{count:>6}")).collect();
+            println!("  {code} {cells}");
+        }
+        println!("  open identifiers passed over: {}", self.passed_over);
+        for (shape, count) in &self.shapes {
+            println!("  {count:>7} {shape}");
+        }
+    }
+}
+
+/// The sentences that do not hold; a lone one is the telling case.
+fn broken(table: &[Record], station: &Station) -> Vec<&'static str> {
+    let mut names: Vec<&str> = sound::RECORD_SENTENCES
+        .iter()
+        .filter(|(_, holds)| !table.iter().all(holds))
+        .map(|(name, _)| *name)
+        .collect();
+    let others = [
+        ("length_in_range", sound::length_in_range(table)),
+        ("station_sound", sound::station_sound(station)),
+        (
+            "no_start_after_last_time",
+            sound::no_start_after_last_time(table, station.last_time),
+        ),
+        ("no_shared_identifier", sound::no_shared_identifier(table)),
+    ];
+    names.extend(others.iter().filter(|other| !other.1).map(|other| other.0));
+    names
+}
+
+fn cases() {
+    let mut counts = Counts::default();
+    let mut alone: BTreeMap<&str, u32> = BTreeMap::new();
+    let mut random = Random::new(1);
+    for _ in 0..CASES {
+        let mut case = lent::case(&mut random);
+        if let [name] = broken(&case.table, &case.station)[..] {
+            *alone.entry(name).or_default() += 1;
+        }
+        let next = case.station.next_identifier;
+        let answer = step(&mut case.table, &mut case.station, &case.event);
+        counts.add(next, &case.event, &answer);
+    }
+    counts.print("lent cases");
+    println!("sentences broken alone");
+    for (name, count) in alone {
+        println!("  {count:>7} {name}");
+    }
+}
+
+fn main() {
+    for profile in profile::ALL {
+        let mut counts = Counts::default();
+        counts.follow(profile::Walk::new(profile, 1), EVENTS);
+        counts.print(profile.name());
+        let mut counts = Counts::default();
+        for seed in 0..LENT_WALKS {
+            let (table, station) = lent::sound_start(&mut Random::new(seed));
+            let walk = profile::Walk::over(profile, seed, table, station);
+            counts.follow(walk, LENT_EVENTS);
+        }
+        counts.print(&format!("{} over lent starts", profile.name()));
+    }
+    cases();
+}

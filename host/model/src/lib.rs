@@ -1,0 +1,29 @@
+//! A plain model of the call diversion engine: one station, a lent table of
+//! call records, one event at a time. It is written for reading, and for
+//! comparing other programs with it, not for speed.
+#![forbid(unsafe_code)]
+
+pub mod answer;
+pub mod codes;
+pub mod event;
+pub mod guided;
+pub mod incoming;
+pub mod lent;
+pub mod notice;
+pub mod outgoing;
+pub mod panel;
+pub mod profile;
+pub mod random;
+pub mod record;
+pub mod shrink;
+pub mod sound;
+pub mod station;
+pub mod step;
+pub mod text;
+pub mod vectors;
+
+pub use answer::{Answer, Message};
+pub use event::Event;
+pub use record::Record;
+pub use station::Station;
+pub use step::step;

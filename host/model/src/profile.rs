@@ -1,0 +1,235 @@
+//! Deterministic lists of events, in profiles that each press on one part of
+//! the page. The same profile, seed and start give the same list.
+
+use crate::answer::Answer;
+use crate::codes::*;
+use crate::event::Event;
+use crate::guided;
+use crate::panel;
+use crate::random::Random;
+use crate::record::Record;
+use crate::station::Station;
+use crate::step::step;
+
+#[derive(Clone, Copy, Debug, PartialEq, Eq, Hash)]
+pub enum Profile {
+    /// Some of everything.
+    Mixed,
+    /// Few calls, led far: Invoked, several DLI1 and DLI3, grants, requests.
+    Deep,
+    /// All records used most of the time.
+    Full,
+    /// Many requests due, clocks at the edge of T1.
+    Clock,
+    /// Diverts upon diverts with many requests open.
+    Wrap,
+    /// Any bytes, damaged fields, backward clocks, wrong calls.
+    Hostile,
+}
+
+pub const ALL: [Profile; 6] = [
+    Profile::Mixed,
+    Profile::Deep,
+    Profile::Full,
+    Profile::Clock,
+    Profile::Wrap,
+    Profile::Hostile,
+];
+
+/// How a profile chooses; chances are in percent, tried in this order.
+struct Taste {
+    wild: u64,
+    bent: u64,
+    any: u64,
+    clock: u64,
+    open: u64,
+    /// Records in use up to which calls are opened.
+    crowd: usize,
+    backward: u64,
+    /// Chance that the time jumps by about T1.
+    leap: u64,
+}
+
+impl Profile {
+    pub fn name(self) -> &'static str {
+        match self {
+            Profile::Mixed => "mixed",
+            Profile::Deep => "deep",
+            Profile::Full => "full",
+            Profile::Clock => "clock",
+            Profile::Wrap => "wrap",
+            Profile::Hostile => "hostile",
+        }
+    }
+
+    fn taste(self) -> Taste {
+        let taste = |wild, bent, any, clock, open, crowd, backward, leap| Taste {
+            wild,
+            bent,
+            any,
+            clock,
+            open,
+            crowd,
+            backward,
+            leap,
+        };
+        match self {
+            Profile::Mixed => taste(1, 4, 12, 4, 25, 14, 1, 4),
+            Profile::Deep => taste(0, 0, 2, 3, 30, 6, 0, 3),
+            Profile::Full => taste(0, 1, 4, 2, 75, 64, 0, 2),
+            Profile::Clock => taste(0, 1, 2, 30, 35, 40, 1, 12),
+            Profile::Wrap => taste(0, 0, 3, 1, 60, 64, 0, 1),
+            Profile::Hostile => taste(15, 25, 25, 4, 25, 10, 12, 6),
+        }
+    }
+}
+
+/// A list in the making: the model runs beside it, so that each event suits
+/// the table that the ones before have left.
+#[derive(Clone, Debug)]
+pub struct Walk {
+    profile: Profile,
+    random: Random,
+    pub table: Vec<Record>,
+    pub station: Station,
+}
+
+impl Walk {
+    /// From the panel's start.
+    pub fn new(profile: Profile, seed: u64) -> Walk {
+        let (table, station) = panel::start();
+        Walk::over(profile, seed, table, station)
+    }
+
+    /// From any table and station.
+    pub fn over(profile: Profile, seed: u64, table: Vec<Record>, station: Station) -> Walk {
+        Walk {
+            profile,
+            random: Random::new(seed),
+            table,
+            station,
+        }
+    }
+
+    /// The next event, without taking it.
+    pub fn propose(&mut self) -> Event {
+        let taste = self.profile.taste();
+        let event = self.choose(&taste);
+        let event = if self.random.chance(taste.bent) {
+            guided::bent(&mut self.random, event)
+        } else {
+            event
+        };
+        Event {
+            time: self.time(&taste, event.kind),
+            ..event
+        }
+    }
+
+    /// The next event and its answer; table and station move on.
+    pub fn advance(&mut self) -> (Event, Answer) {
+        let event = self.propose();
+        let answer = step(&mut self.table, &mut self.station, &event);
+        (event, answer)
+    }
+
+    fn choose(&mut self, taste: &Taste) -> Event {
+        let random = &mut self.random;
+        if random.chance(taste.wild) {
+            return guided::wild(random);
+        }
+        if random.chance(taste.any) {
+            return guided::any_well_made(random, &self.table);
+        }
+        if random.chance(taste.clock) {
+            return Event {
+                kind: CLOCK,
+                ..Event::default()
+            };
+        }
+        let used = self.table.iter().filter(|r| !r.is_free()).count();
+        if used < taste.crowd.min(self.table.len()) && random.chance(taste.open) {
+            return self.opening();
+        }
+        // A full table must meet an open now and then.
+        if used == self.table.len() && random.chance(15) {
+            return guided::open(random);
+        }
+        match self.profile {
+            Profile::Wrap | Profile::Clock if random.chance(60) => self.divert_somewhere(),
+            _ => guided::about_a_call(random, &self.table),
+        }
+    }
+
+    /// Wrap and Clock live on incoming calls.
+    fn opening(&mut self) -> Event {
+        let event = guided::open(&mut self.random);
+        match self.profile {
+            Profile::Wrap | Profile::Clock if self.random.chance(80) => Event {
+                kind: OPEN_INCOMING,
+                first: event.first,
+                ..Event::default()
+            },
+            _ => event,
+        }
+    }
+
+    /// A divert that the first idle call from some place on takes.
+    fn divert_somewhere(&mut self) -> Event {
+        let random = &mut self.random;
+        let length = self.table.len().max(1);
+        let from = random.below(length as u64) as usize;
+        let limit = self.station.limit;
+        let idle = |r: &Record| {
+            let called = r.direction == INCOMING && r.basic != ACTIVE;
+            called && !r.is_requested() && !r.is_granted() && r.counter < limit
+        };
+        let found = (0..self.table.len())
+            .map(|ahead| (from + ahead) % length)
+            .find(|&at| idle(&self.table[at]));
+        match found {
+            None => guided::about_a_call(random, &self.table),
+            Some(at) => {
+                let reason = match self.table[at].basic {
+                    RECEIVED => CFNR,
+                    _ => random.pick(&[CFU, CFB]),
+                };
+                Event {
+                    call: at as u8,
+                    ..guided::divert(random, reason)
+                }
+            }
+        }
+    }
+
+    fn time(&mut self, taste: &Taste, kind: u8) -> u64 {
+        let random = &mut self.random;
+        let last = self.station.last_time;
+        if random.chance(taste.backward) {
+            let back = random.pick(&[1, 1, 7, 10_000, u64::MAX]);
+            return last.saturating_sub(back);
+        }
+        // A clock at the edge of some request's T1, if that is not gone by.
+        let starts: Vec<u64> = self
+            .table
+            .iter()
+            .filter(|r| r.is_requested())
+            .map(|r| r.start)
+            .collect();
+        if kind == CLOCK && !starts.is_empty() && random.chance(60) {
+            let around = random.pick(&[T1 - 1, T1, T1, T1 + 1]);
+            return random.pick(&starts).saturating_add(around).max(last);
+        }
+        let pause = match random.chance(taste.leap) {
+            true => random.pick(&[T1 - 1, T1, T1 + 1, 3 * T1]),
+            false => random.pick(&[0, 0, 1, 5, 40, 300]),
+        };
+        last.saturating_add(pause)
+    }
+}
+
+/// The first events of a profile from the panel's start.
+pub fn events(profile: Profile, seed: u64, count: usize) -> Vec<Event> {
+    let mut walk = Walk::new(profile, seed);
+    (0..count).map(|_| walk.advance().0).collect()
+}

@@ -1,0 +1,214 @@
+//! When a record, a table and a station are sound: one function for each
+//! sentence of the page's list.
+
+use crate::codes::*;
+use crate::record::Record;
+use crate::station::Station;
+
+/// "each code is in range". A free record has no basic state, a used one has.
+pub fn codes_in_range(r: &Record) -> bool {
+    let marks = [r.cdo, r.cdr, r.seen, r.forbidden, r.shown, r.cds, r.granted];
+    r.direction <= INCOMING
+        && r.basic <= ACTIVE
+        && (r.basic == 0) == r.is_free()
+        && marks.iter().all(|&mark| mark <= 1)
+        && r.waiting_option <= WITH_NUMBER
+        && r.waiting_reason <= CFNR
+        && r.strictest <= WITH_NUMBER
+        && r.cdf <= CDF_DONE
+        && r.counter <= MOST_DIVERSIONS
+        && r.reason <= CFNR
+}
+
+/// "each party, own and (DLI1 seen) nominated number is not 0"
+pub fn numbers_not_zero(r: &Record) -> bool {
+    match r.direction {
+        OUTGOING => {
+            r.leg1 != 0 && (!r.is_invoked() || r.leg2 != 0) && (r.seen == 0 || r.nominated != 0)
+        }
+        INCOMING => r.own != 0,
+        _ => true,
+    }
+}
+
+/// "each unused field is 0", of the other direction or of a free record
+pub fn other_directions_fields_zero(r: &Record) -> bool {
+    match r.direction {
+        OUTGOING => *r == outgoing_part(r),
+        INCOMING => *r == incoming_part(r),
+        _ => *r == Record::default(),
+    }
+}
+
+/// The fields that the page names for outgoing calls, all others 0.
+fn outgoing_part(r: &Record) -> Record {
+    Record {
+        direction: r.direction,
+        basic: r.basic,
+        cdo: r.cdo,
+        cdr: r.cdr,
+        leg1: r.leg1,
+        leg2: r.leg2,
+        waiting_option: r.waiting_option,
+        waiting_reason: r.waiting_reason,
+        seen: r.seen,
+        strictest: r.strictest,
+        forbidden: r.forbidden,
+        shown: r.shown,
+        nominated: r.nominated,
+        ..Record::default()
+    }
+}
+
+/// The fields that the page names for incoming calls, all others 0.
+fn incoming_part(r: &Record) -> Record {
+    Record {
+        direction: r.direction,
+        basic: r.basic,
+        cds: r.cds,
+        cdf: r.cdf,
+        own: r.own,
+        counter: r.counter,
+        diverting: r.diverting,
+        original: r.original,
+        reason: r.reason,
+        identifier: r.identifier,
+        start: r.start,
+        granted: r.granted,
+        ..Record::default()
+    }
+}
+
+/// "in Invoked also the forwarded party (leg 2), option and reason"
+pub fn second_leg_only_in_invoked(r: &Record) -> bool {
+    r.is_invoked() || (r.leg2 == 0 && r.waiting_option == 0 && r.waiting_reason == 0)
+}
+
+/// "It is all 0 before the first DLI1"
+pub fn history_zero_before_dli1(r: &Record) -> bool {
+    r.seen != 0 || (r.strictest == 0 && r.forbidden == 0 && r.shown == 0 && r.nominated == 0)
+}
+
+/// "counter 0 to 15 (0: no diversion), diverting and original called numbers"
+pub fn numbers_only_with_counter(r: &Record) -> bool {
+    r.counter != 0 || (r.diverting == 0 && r.original == 0)
+}
+
+/// "in Requested the reason, identifier and T1 start; a granted mark with its
+/// reason"
+pub fn request_fields_only_in_use(r: &Record) -> bool {
+    (r.is_requested() || (r.identifier == 0 && r.start == 0))
+        && (r.is_requested() || r.is_granted() || r.reason == 0)
+}
+
+/// "CDF is none exactly when the counter is 0"
+pub fn cdf_none_exactly_without_counter(r: &Record) -> bool {
+    (r.cdf == CDF_NONE) == (r.counter == 0)
+}
+
+/// "CDO is Divert exactly when a DLI1 was seen and the state isn't Active"
+pub fn divert_exactly_after_dli1(r: &Record) -> bool {
+    (r.cdo == DIVERT) == (r.seen == 1 && r.basic != ACTIVE)
+}
+
+/// "CDR is Invoked only in Delivered and with reason cfnr"
+pub fn invoked_only_in_delivered(r: &Record) -> bool {
+    !r.is_invoked() || (r.basic == DELIVERED && r.waiting_reason == CFNR)
+}
+
+/// "Requested and granted exclude each other and Active"
+pub fn requested_granted_active_apart(r: &Record) -> bool {
+    let states = [r.is_requested(), r.is_granted(), r.basic == ACTIVE];
+    states.iter().filter(|&&holds| holds).count() <= 1
+}
+
+/// "their reason fits the basic state (cfu and cfb Proceeding, cfnr
+/// Received)"
+pub fn request_reason_fits(r: &Record) -> bool {
+    !(r.is_requested() || r.is_granted()) || reason_fits(r.reason, r.basic)
+}
+
+/// The reasons for which a call in this basic state may be diverted.
+pub fn reason_fits(reason: u8, basic: u8) -> bool {
+    match reason {
+        CFU | CFB => basic == PROCEEDING,
+        CFNR => basic == RECEIVED,
+        _ => false,
+    }
+}
+
+/// "Wait excludes Active"
+pub fn wait_excludes_active(r: &Record) -> bool {
+    !(r.cdf == CDF_WAIT && r.basic == ACTIVE)
+}
+
+/// A name and what it says of a record.
+pub type Sentence = (&'static str, fn(&Record) -> bool);
+
+/// The sentences about one record, each with a name for reports.
+pub const RECORD_SENTENCES: [Sentence; 13] = [
+    ("codes_in_range", codes_in_range),
+    ("numbers_not_zero", numbers_not_zero),
+    ("other_directions_fields_zero", other_directions_fields_zero),
+    ("second_leg_only_in_invoked", second_leg_only_in_invoked),
+    ("history_zero_before_dli1", history_zero_before_dli1),
+    ("numbers_only_with_counter", numbers_only_with_counter),
+    ("request_fields_only_in_use", request_fields_only_in_use),
+    (
+        "cdf_none_exactly_without_counter",
+        cdf_none_exactly_without_counter,
+    ),
+    ("divert_exactly_after_dli1", divert_exactly_after_dli1),
+    ("invoked_only_in_delivered", invoked_only_in_delivered),
+    (
+        "requested_granted_active_apart",
+        requested_granted_active_apart,
+    ),
+    ("request_reason_fits", request_reason_fits),
+    ("wait_excludes_active", wait_excludes_active),
+];
+
+/// All that is asked of one record by itself.
+pub fn record_sound(record: &Record) -> bool {
+    RECORD_SENTENCES.iter().all(|(_, holds)| holds(record))
+}
+
+/// "no T1 start is after the last time"
+pub fn no_start_after_last_time(table: &[Record], last_time: u64) -> bool {
+    table
+        .iter()
+        .all(|r| !r.is_requested() || r.start <= last_time)
+}
+
+/// "no two Requested records share an identifier"
+pub fn no_shared_identifier(table: &[Record]) -> bool {
+    let mut open: Vec<u16> = table
+        .iter()
+        .filter(|r| r.is_requested())
+        .map(|r| r.identifier)
+        .collect();
+    open.sort_unstable();
+    open.windows(2).all(|pair| pair[0] != pair[1])
+}
+
+/// "The host lends the table of calls as 1 to 64 call records."
+pub fn length_in_range(table: &[Record]) -> bool {
+    (1..=MOST_RECORDS).contains(&table.len())
+}
+
+/// The records of a table of any length are sound, alone and together.
+pub fn records_sound(table: &[Record], last_time: u64) -> bool {
+    table.iter().all(record_sound)
+        && no_start_after_last_time(table, last_time)
+        && no_shared_identifier(table)
+}
+
+/// "its diversion limit (1 to 15)"; any time and identifier will do.
+pub fn station_sound(station: &Station) -> bool {
+    (1..=MOST_DIVERSIONS).contains(&station.limit)
+}
+
+/// The opposite of refusal 1.
+pub fn lent_sound(table: &[Record], station: &Station) -> bool {
+    length_in_range(table) && station_sound(station) && records_sound(table, station.last_time)
+}

@@ -1,0 +1,140 @@
+//! The generators meet every case, and each done event keeps soundness.
+#![forbid(unsafe_code)]
+
+use model::codes::*;
+use model::profile::{self, Walk};
+use model::random::Random;
+use model::shrink::shrink;
+use model::{lent, sound, step, Answer, Event, Record, Station};
+
+/// What must hold of any one event on any table.
+fn check(
+    before: &(Vec<Record>, Station),
+    after: &(Vec<Record>, Station),
+    event: &Event,
+    answer: &Answer,
+) {
+    if answer.code != 0 {
+        assert_eq!(before, after, "{event:?}");
+        assert_eq!(*answer, Answer::refused(answer.code));
+        return;
+    }
+    assert!(sound::lent_sound(&after.0, &after.1), "{event:?}");
+    assert_eq!(after.1.last_time, event.time);
+    assert_eq!(after.1.limit, before.1.limit);
+    assert!(answer.messages.len() <= 3);
+    assert_eq!(
+        answer.call.is_none(),
+        event.kind == CLOCK && before.0 == after.0
+    );
+    // No record but the call's own moves.
+    for (at, pair) in before.0.iter().zip(&after.0).enumerate() {
+        assert!(pair.0 == pair.1 || answer.call == Some(at as u8));
+    }
+}
+
+#[test]
+fn soundness_is_kept_on_all_profiles() {
+    for profile in profile::ALL {
+        for seed in 0..4 {
+            let mut walk = Walk::new(profile, seed);
+            for _ in 0..2000 {
+                let before = (walk.table.clone(), walk.station);
+                let (event, answer) = walk.advance();
+                let after = (walk.table.clone(), walk.station);
+                check(&before, &after, &event, &answer);
+            }
+        }
+    }
+}
+
+#[test]
+fn soundness_is_kept_from_lent_starts() {
+    for seed in 0..600 {
+        let mut random = Random::new(seed);
+        let (table, station) = lent::sound_start(&mut random);
+        assert!(sound::lent_sound(&table, &station), "seed {seed}");
+        let profile = random.pick(&profile::ALL);
+        let mut walk = Walk::over(profile, seed, table, station);
+        for _ in 0..40 {
+            let before = (walk.table.clone(), walk.station);
+            let (event, answer) = walk.advance();
+            let after = (walk.table.clone(), walk.station);
+            check(&before, &after, &event, &answer);
+        }
+    }
+}
+
+/// Whether the page gives that answer to some event of that kind.
+fn possible(code: u8, kind: u8) -> bool {
+    match code {
+        0..=3 => true,
+        4 => !matches!(kind, OPEN_OUTGOING..=OPEN_DIVERTED | CLOCK),
+        5 => matches!(kind, USER_ALERTED..=LEG_FAILED | REROUTE..=MESSAGE),
+        6 => matches!(kind, RESULT | ERROR),
+        7 => kind == USER_DIVERTS,
+        _ => matches!(kind, OPEN_OUTGOING..=OPEN_DIVERTED),
+    }
+}
+
+#[test]
+fn lent_cases_meet_every_answer_of_every_kind() {
+    let mut counts = [[0_u32; 256]; 9];
+    let mut random = Random::new(7);
+    for _ in 0..60_000 {
+        let mut case = lent::case(&mut random);
+        let before = (case.table.clone(), case.station);
+        let answer = step(&mut case.table, &mut case.station, &case.event);
+        check(&before, &(case.table, case.station), &case.event, &answer);
+        counts[usize::from(answer.code)][usize::from(case.event.kind)] += 1;
+    }
+    for code in 0..=8 {
+        for kind in 1..=15 {
+            let met = counts[usize::from(code)][usize::from(kind)];
+            assert_eq!(
+                met > 20,
+                possible(code, kind),
+                "{code} of kind {kind}: {met}"
+            );
+        }
+    }
+}
+
+#[test]
+fn lent_lengths_reach_from_0_to_66() {
+    let mut random = Random::new(3);
+    let mut met = [false; 67];
+    for _ in 0..5000 {
+        met[lent::length(&mut random)] = true;
+    }
+    assert!(met.iter().all(|&length| length));
+}
+
+#[test]
+fn lists_are_deterministic() {
+    for profile in profile::ALL {
+        let list = profile::events(profile, 11, 300);
+        assert_eq!(list, profile::events(profile, 11, 300));
+        assert_ne!(list, profile::events(profile, 12, 300));
+    }
+}
+
+#[test]
+fn shrinking_leaves_what_matters() {
+    let events = profile::events(profile::Profile::Deep, 5, 400);
+    let shown = |list: &[Event]| {
+        let answers = model::panel::answers(list);
+        answers.iter().any(|answer| answer.number.is_some())
+    };
+    assert!(shown(&events));
+    let short = shrink(&events, shown);
+    assert!(shown(&short));
+    assert!(short.len() <= 4, "{short:?}");
+    for at in 0..short.len() {
+        let mut shorter = short.clone();
+        shorter.remove(at);
+        assert!(!shown(&shorter));
+    }
+    assert_eq!(shrink(&events, |_| false), events);
+    assert_eq!(shrink(&[1, 2, 3], |_| true), Vec::<i32>::new());
+}
