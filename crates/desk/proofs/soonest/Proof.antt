@@ -1,0 +1,45 @@
+use Prim.Native.Nat.{_≤_, _-_}
+use mathlib.Core.Path.{_≡_, refl, sym, ap, _∙_}
+use mathlib.Core.Bool.{true}
+use native.Mathlib.Omega.{arith}
+use borrow.Author.Needs.{needs}
+use borrow.Author.Tests.{eq-eqb, ne-eqb, lt-ltb, le-ltb, le-leb}
+use lib.ListN.{take, length}
+use lib.Seq.{take-all}
+use Rattle.ground.specs.Lists.{first, all}
+use Rattle.ground.proofs.Walks.{first-on, first-at, all-on}
+use Rattle.desk.specs.Desk.{under, atLeast}
+use Rattle.desk.proofs.Kept.{all-lower}
+use Rattle.desk.proofs.soonest.Statement.{statement}
+use Rattle.desk.proofs.soonest.Tie as tie
+
+abbrev Inv-loop : tie.InvT-loop
+Inv-loop dues m₀ i₀ m i = (i ≤ 64) × (all (atLeast m) (take i dues) ≡ true)
+
+abbrev μ-loop : tie.MeasureT-loop
+μ-loop dues m₀ i₀ m i = 64 - i
+
+loop-holds : tie.Need-loop-holds Inv-loop μ-loop
+unfolding all
+loop-holds c = (omega arith, refl)
+
+loop-again : tie.Need-loop-again Inv-loop μ-loop
+loop-again c =
+    let at = c .before .before .before in
+    let l = at .before .args .dues .now in
+    let long : length l ≡ 64 = omega arith in
+    let m = c .sooner .result in
+    (omega arith, all-on (atLeast m) l (at .loop .i) 0 (omega arith) (all-lower m (at .loop .m) (take (at .loop .i) l) (c .sooner .ensures .0) (at .loop .inv .1)) (le-leb _ _ (c .sooner .ensures .1)))
+
+returns : tie.Need-returns Inv-loop μ-loop
+returns c =
+    let l = c .before .before .args .dues .now in
+    let long : length l ≡ 64 = omega arith in
+    let e : c .before .loop .i ≡ 64 = omega arith in
+    rw (e, take-all 64 l (omega arith)) at (c .before .loop .inv .1)
+
+pub soonest-spec : {M : Type 1} → statement M
+soonest-spec =
+    tie.close
+    (tie.spec
+    Inv-loop μ-loop loop-holds (λ c. omega arith) (λ c. omega arith) (λ c κs. search needs) (λ c. omega arith) (λ c. omega arith) loop-again returns)

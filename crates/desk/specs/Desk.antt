@@ -1,0 +1,51 @@
+-- What a run keeps beside its table.
+use Prim.Native.Nat.{ℕ, zero, suc, _+_}
+use mathlib.Core.Path.{_≡_}
+use mathlib.Core.Bool.{Bool, true}
+use mathlib.Core.List.{List, [], _∷_, map}
+use lib.ListN.{length, replicate}
+use lib.Dec.{ltb, leb, eqb}
+use Rattle.ground.specs.Choice.{when_then_else_}
+use Rattle.ground.specs.Lists.{all, any}
+use Rattle.identifier.specs.Identifier.{after}
+use Rattle.call.specs.declared.Call.{Call}
+use Rattle.call.specs.Record.{freeCall, isFree, requested}
+use Rattle.desk.specs.declared.Desk.{Desk}
+use Rattle.desk.specs.Mask.{maskOf}
+
+abbrev pub never : ℕ
+never = 18446744073709551615
+
+-- an open request's identifier plus 1; 0 where none is open
+abbrev pub heldBy : Call → ℕ
+heldBy c = when requested c then c .identifier + 1 else 0
+
+-- the last time at which a request isn't due yet
+abbrev pub quietUntil : Call → ℕ
+quietUntil c =
+    when requested c then (when ltb (c .start) 18446744073709541616 then c .start + 9999 else never) else
+    never
+
+abbrev pub atLeast : ℕ → ℕ → Bool
+atLeast m d = leb m d
+
+abbrev pub under : ℕ → ℕ → Bool
+under time d = ltb d time
+
+-- the first of so many candidates that the column doesn't hold; where it holds all, the one after them
+unfoldable pub firstFreeIn : ℕ → List ℕ → ℕ → ℕ
+firstFreeIn zero held candidate = candidate
+firstFreeIn (suc more) held candidate =
+    let later = firstFreeIn more held (after candidate) in
+    when any (eqb (candidate + 1)) held then later else candidate
+
+-- the places past the lent length
+abbrev pub frees : List Call
+frees = replicate 64 freeCall
+
+-- what is kept is what the records say
+pub record Kept (calls : List Call) (d : Desk) : Type 0 where
+  pub mask : d .free ≡ maskOf isFree calls
+  pub column : d .dues ≡ map quietUntil calls
+  pub bound : all (atLeast (d .soon)) (d .dues) ≡ true
+  pub idents : d .held ≡ map heldBy calls
