@@ -1,0 +1,5 @@
+pub mod Pigeon
+pub mod Draw
+pub mod Reading
+pub mod Joined
+pub mod Gathered
