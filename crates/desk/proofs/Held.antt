@@ -31,7 +31,7 @@ first-same p f q h (y ∷ ys) = rw (h y, first-same p f q h ys)
 same-number : (n m : ℕ) → eqb (n + 1) (m + 1) ≡ eqb n m
 same-number n m = rw (add-one n, add-one m) (eqb·suc-suc n m)
 
-held-taken : (l : List Call) (n : ℕ) → any (eqb (n + 1)) (map heldBy l) ≡ taken (requestsOf l) n
+pub held-taken : (l : List Call) (n : ℕ) → any (eqb (n + 1)) (map heldBy l) ≡ taken (requestsOf l) n
 unfolding any requestsOf
 held-taken [] n = refl
 held-taken (c ∷ cs) n = go (requested c) (held-taken cs n)

@@ -1,0 +1,62 @@
+-- How the code holds a lent table: an array of 64 records of which the first `len` are lent. "An array of 64 with a length"
+-- stands for the list of its first records; the rest of the array is none of the table.
+use Prim.Native.Nat.{ℕ}
+use mathlib.Core.Bool.{Bool, true, false, _&&_, _||_, not}
+use mathlib.Core.List.{List, [], _∷_, _++_}
+use lib.Dec.{ltb, eqb}
+use lib.ListN.{take, drop}
+use Rattle.ground.specs.Choice.{when_then_else_}
+use Rattle.ground.specs.Lists.{any}
+use Rattle.event.specs.declared.Event.{Event}
+use Rattle.event.specs.Kinds.{diverts}
+use Rattle.call.specs.declared.Call.{Call}
+use Rattle.call.specs.State.{stateForbids}
+use Rattle.station.specs.declared.Station.{Station}
+use Rattle.station.specs.Station.{emptyAnswer}
+use Rattle.station.specs.Table.{sound}
+use Rattle.station.specs.Refusals.{wrongCall, otherIdentifier, overLimit}
+use Rattle.station.specs.Step.{Outcome, step, stepOnSound}
+use Rattle.engine.specs.declared.Board.{Board}
+use Rattle.engine.specs.declared.Stepped.{Stepped}
+
+-- the table that is lent
+abbrev pub lent : Board → List Call
+lent b = take (b .len) (b .calls)
+
+-- an outcome on the lent table, put back: the rest of the array is unchanged
+abbrev pub putBack : Board → Outcome → Stepped
+putBack b o = record {
+  answer = o .answer;
+  board = record { station = o .station; len = b .len; calls = o .calls ++ drop (b .len) (b .calls) };
+}
+
+-- 64 records are held at most: a longer length is "over 64 records", refused with 1
+abbrev pub onBoard : (Station → List Call → Event → Outcome) → Board → Event → Stepped
+onBoard f b e =
+    when ltb 64 (b .len) then record { answer = emptyAnswer 1; board = b } else
+    putBack b (f (b .station) (lent b) e)
+
+-- one event
+abbrev pub stepBoard : Board → Event → Stepped
+stepBoard b e = onBoard step b e
+
+-- one event where the caller can show that the table is sound
+abbrev pub stepSoundBoard : Board → Event → Stepped
+stepSoundBoard b e = putBack b (stepOnSound (b .station) (lent b) e)
+
+abbrev pub soundBoard : Board → Bool
+soundBoard b = not (ltb 64 (b .len)) && sound (b .station) (lent b)
+
+-- numbers 4 to 7 where the event names a call, or 0
+abbrev pub namedRefusal : Station → Call → Event → ℕ
+namedRefusal s c e =
+    when wrongCall c e then 4 else
+    when stateForbids c e then 5 else
+    when otherIdentifier c e then 6 else
+    when overLimit s c e then 7 else
+    0
+
+-- no two identifiers of a column are equal, where 0 is none
+unfoldable pub apartIn : List ℕ → Bool
+apartIn [] = true
+apartIn (x ∷ rest) = (eqb x 0 || not (any (eqb x) rest)) && apartIn rest

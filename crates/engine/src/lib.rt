@@ -1,0 +1,129 @@
+// The engine over a table of 64 records by value, of which the first `len` are lent.
+ghost use mathlib.Core.Path.{_≡_};
+ghost use mathlib.Core.Bool.{true};
+ghost use Prim.Native.Nat.{ℕ, _+_, _≤_, _<_};
+ghost use lib.ListN.{length, take, drop};
+ghost use lib.Dec.{eqb};
+ghost use Rattle.ground.specs.Lists.{all, any};
+ghost use Rattle.call.specs.Soundness.{soundCall};
+ghost use Rattle.station.specs.Table.{sound};
+ghost use Rattle.engine.specs.Board.{namedRefusal, apartIn, soundBoard};
+use call::Call;
+use event::Event;
+use station::Answer;
+use station::Station;
+
+#[repr(C)]
+pub struct Board {
+    pub station: Station,
+    pub len: usize,
+    pub calls: [Call; 64],
+}
+
+#[repr(C)]
+pub struct Stepped {
+    pub answer: Answer,
+    pub board: Board,
+}
+
+// What a run leaves; `cut` is the byte count of a cut last record.
+#[repr(C)]
+pub struct Ran {
+    pub done: u64,
+    pub refused: u64,
+    pub cut: usize,
+    pub board: Board,
+}
+
+// Numbers 4 to 7 where the event names the call c, or 0.
+pub fn named_refusal(s: Station, c: Call, e: Event) -> u8
+    ensures { λ r. ⌜ r ≡ namedRefusal s c e ⌝ }
+{
+    if sound::state::wrong_call(c, e) {
+        return 4;
+    }
+    if sound::state::state_forbids(c, e) {
+        return 5;
+    }
+    if sound::state::other_identifier(c, e) {
+        return 6;
+    }
+    if sound::state::over_limit(s, c, e) {
+        return 7;
+    }
+    0
+}
+
+// Whether some identifier of the column from j on is the one wanted.
+fn stands_from(held: &[u32; 64], from: usize, wanted: u32) -> bool
+    requires { ⌜ length (now held) ≡ 64 ⌝ }
+    ensures { λ r. ⌜ r ≡ any (eqb wanted) (drop from (now (held .entry))) ⌝ }
+{
+    let mut j = from;
+    while j < 64 {
+        if held[j] == wanted {
+            return true;
+        }
+        j += 1;
+    }
+    false
+}
+
+// No two open requests share an identifier.
+fn apart(held: &[u32; 64]) -> bool
+    requires { ⌜ length (now held) ≡ 64 ⌝ }
+    ensures { λ r. ⌜ r ≡ apartIn (now (held .entry)) ⌝ }
+{
+    let mut i: usize = 0;
+    while i < 64 {
+        let wanted = held[i];
+        if wanted == 0 {
+            i += 1;
+            continue;
+        }
+        if stands_from(held, i + 1, wanted) {
+            return false;
+        }
+        i += 1;
+    }
+    true
+}
+
+// Each of the first len records is sound.
+fn all_sound(calls: [Call; 64], len: usize, last: u64) -> bool
+    requires { ⌜ len ≤ 64 ⌝ }
+    ensures { λ r. ⌜ r ≡ all (soundCall last) (take len calls) ⌝ }
+{
+    let mut i: usize = 0;
+    while i < len {
+        let c = calls[i];
+        if sound::record::sound_call(c, last) {
+            i += 1;
+        } else {
+            return false;
+        }
+    }
+    true
+}
+
+// Table and station are sound: the test behind number 1.
+pub fn sound_board(b: Board) -> bool
+    ensures { λ r. ⌜ r ≡ soundBoard b ⌝ }
+{
+    let len = b.len;
+    let calls = b.calls;
+    let limit = b.station.limit;
+    let last = b.station.last;
+    if 64 < len {
+        return false;
+    }
+    if (1 <= len) & (1 <= limit) & (limit <= 15) {
+        if all_sound(calls, len, last) {
+            let d = desk::summed(calls, len);
+            let held = d.held;
+            return apart(&held);
+        }
+        return false;
+    }
+    false
+}
