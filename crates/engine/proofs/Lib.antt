@@ -1,2 +1,5 @@
 pub mod Columns
 pub mod Boards
+pub mod Sorts
+pub mod Through
+pub mod Found

@@ -1,21 +1,28 @@
 -- How the code holds a lent table: an array of 64 records of which the first `len` are lent. "An array of 64 with a length"
 -- stands for the list of its first records; the rest of the array is none of the table.
-use Prim.Native.Nat.{ℕ}
+use Prim.Native.Nat.{ℕ, _≤_}
+use mathlib.Core.Path.{_≡_}
 use mathlib.Core.Bool.{Bool, true, false, _&&_, _||_, not}
 use mathlib.Core.List.{List, [], _∷_, _++_}
 use lib.Dec.{ltb, eqb}
-use lib.ListN.{take, drop}
+use lib.ListN.{take, drop, set}
 use Rattle.ground.specs.Choice.{when_then_else_}
 use Rattle.ground.specs.Lists.{any}
 use Rattle.event.specs.declared.Event.{Event}
 use Rattle.event.specs.Kinds.{diverts}
+use Rattle.event.specs.WellMade.{wellMade}
+use Rattle.identifier.specs.Identifier.{after, candidates}
 use Rattle.call.specs.declared.Call.{Call}
+use Rattle.call.specs.declared.Effect.{Effect}
 use Rattle.call.specs.State.{stateForbids}
 use Rattle.station.specs.declared.Station.{Station}
 use Rattle.station.specs.Station.{emptyAnswer}
 use Rattle.station.specs.Table.{sound}
 use Rattle.station.specs.Refusals.{wrongCall, otherIdentifier, overLimit}
-use Rattle.station.specs.Step.{Outcome, step, stepOnSound}
+use Rattle.station.specs.Step.{Outcome, answerOf, step, stepOnSound}
+use Rattle.desk.specs.declared.Desk.{Desk}
+use Rattle.desk.specs.Mask.{over}
+use Rattle.desk.specs.Desk.{Kept, frees, firstFreeIn}
 use Rattle.engine.specs.declared.Board.{Board}
 use Rattle.engine.specs.declared.Stepped.{Stepped}
 
@@ -60,3 +67,34 @@ namedRefusal s c e =
 unfoldable pub apartIn : List ℕ → Bool
 apartIn [] = true
 apartIn (x ∷ rest) = (eqb x 0 || not (any (eqb x) rest)) && apartIn rest
+
+-- the board after the record at a place is replaced by its effect, and the answer
+abbrev pub settledBoard : Board → Event → ℕ → ℕ → Effect → Stepped
+settledBoard b e i next x = record {
+  answer = answerOf i x;
+  board = record { station = record { last = e .time; next = next; limit = b .station .limit }; len = b .len; calls = set (b .calls) i (x .call) };
+}
+
+-- a clock event with none due
+abbrev pub idleBoard : Board → Event → Stepped
+idleBoard b e = record {
+  answer = emptyAnswer 0;
+  board = record { station = record { last = e .time; next = b .station .next; limit = b .station .limit }; len = b .len; calls = b .calls };
+}
+
+abbrev pub refusedBoard : Board → ℕ → Stepped
+refusedBoard b code = record { answer = emptyAnswer code; board = b }
+
+-- the identifier that the event's request takes from a column of those held; only a divert asks for one
+abbrev pub identifierIn : Event → List ℕ → ℕ → ℕ
+identifierIn e held next = when diverts e then firstFreeIn candidates held next else next
+
+abbrev pub nextWith : Event → ℕ → ℕ → ℕ
+nextWith e identifier next = when diverts e then after identifier else next
+
+-- the event passed tests 2 and 3, and what is kept beside the table is true of it
+pub record Passed (b : Board) (d : Desk) (e : Event) : Type 0 where
+  pub short : b .len ≤ 64
+  pub kept : Kept (over (b .len) (b .calls) frees) d
+  pub late : b .station .last ≤ e .time
+  pub made : wellMade e ≡ true

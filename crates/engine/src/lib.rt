@@ -7,8 +7,11 @@ ghost use lib.Dec.{eqb};
 ghost use Rattle.ground.specs.Lists.{all, any};
 ghost use Rattle.call.specs.Soundness.{soundCall};
 ghost use Rattle.station.specs.Table.{sound};
-ghost use Rattle.engine.specs.Board.{namedRefusal, apartIn, soundBoard};
+ghost use Rattle.station.specs.Step.{answerOf};
+ghost use Rattle.engine.specs.Board.{namedRefusal, apartIn, soundBoard, refusedBoard, idleBoard, settledBoard, identifierIn, nextWith};
 use call::Call;
+use call::Effect;
+use desk::Desk;
 use event::Event;
 use station::Answer;
 use station::Station;
@@ -33,6 +36,73 @@ pub struct Ran {
     pub refused: u64,
     pub cut: usize,
     pub board: Board,
+}
+
+fn refused(b: Board, code: u8) -> Stepped
+    ensures { λ r. ⌜ r ≡ refusedBoard b code ⌝ }
+{
+    let answer = station::empty_answer(code);
+    Stepped { answer: answer, board: b }
+}
+
+// A clock event with none due.
+fn idle(b: Board, e: Event) -> Stepped
+    ensures { λ r. ⌜ r ≡ idleBoard b e ⌝ }
+{
+    let answer = station::empty_answer(0);
+    let mut next = b;
+    next.station.last = e.time;
+    Stepped { answer: answer, board: next }
+}
+
+// What a done event answers, from its effect on the record at i.
+pub fn answered(i: u8, x: Effect) -> Answer
+    ensures { λ r. ⌜ r ≡ answerOf i x ⌝ }
+{
+    let sent = x.sent;
+    Answer {
+        code: 0,
+        call: i,
+        sent: sent,
+        notice: x.notice,
+        number: x.number,
+        identifier: x.identifier,
+        counter: x.counter,
+    }
+}
+
+fn settled(b: Board, e: Event, i: usize, next: u16, x: Effect) -> Stepped
+    requires { ⌜ i < 64 ⌝ }
+    ensures { λ r. ⌜ r ≡ settledBoard b e i next x ⌝ }
+{
+    let answer = answered(i as u8, x);
+    let c = x.call;
+    let mut after = b;
+    after.calls[i] = c;
+    after.station.last = e.time;
+    after.station.next = next;
+    Stepped { answer: answer, board: after }
+}
+
+fn identifier_in(e: Event, held: &[u32; 64], next: u16) -> u16
+    requires { ⌜ length (now held) ≡ 64 ⌝ }
+    ensures { λ r. ⌜ r ≡ identifierIn e (now (held .entry)) next ⌝ }
+{
+    if e.kind == 6 {
+        desk::draw(held, next)
+    } else {
+        next
+    }
+}
+
+fn next_with(e: Event, identifier: u16, next: u16) -> u16
+    ensures { λ r. ⌜ r ≡ nextWith e identifier next ⌝ }
+{
+    if e.kind == 6 {
+        identifier::next_after(identifier)
+    } else {
+        next
+    }
 }
 
 // Numbers 4 to 7 where the event names the call c, or 0.
