@@ -72,7 +72,7 @@ clear-is : (l : List Told) (m : Mark) (b : Bool) → T (diverted l) → T (optio
 unfolding all
 clear-is l m b t o e =
     let two = least-two (historyOf l .strictest) (optionsOf l) (strictest-is l t) o in
-    rw (flag-clear m, two, forbidden-is l, marks-clear (marksOf l), e, mark-clear b)
+    simp (flag-clear m, two, forbidden-is l, marks-clear (marksOf l), e, mark-clear b)
     (regroup (isAllowed m) (all (eqb 2) (optionsOf l)) (all isAllowed (marksOf l)) (not b))
 
 one-of : (a b : Bool) (x y : ℕ) → (when b then x else (when a then x else y)) ≡ when a || b then x else y
@@ -114,7 +114,7 @@ unfolding counted
 number-by-list l m number c o =
     let d = and-l (diverted l) (counted l) c in
     let s = shown-is l (and-r (diverted l) (counted l) c) o in
-    rw (clear-is l m (shownBefore l) d o s, nominated-is l)
+    simp (clear-is l m (shownBefore l) d o s, nominated-is l)
 
 pub number-exactly : ShowsExactly
 number-exactly l m number c o z = rw (number-by-list l m number c o) (chosen (shows l m) (eqb number 0) refl)
