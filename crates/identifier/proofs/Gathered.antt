@@ -7,7 +7,7 @@ use mathlib.Core.List.{List, [], _∷_, _++_}
 use lib.Dec.{T}
 use lib.ListN.{length, getD, set}
 use Rattle.identifier.specs.Identifier.{taken, distinct}
-use Rattle.identifier.proofs.Joined.{taken-left, taken-right, taken-either, distinct-left, distinct-right, parts-apart, distinct-exchanged}
+use Rattle.identifier.proofs.Joined.{taken-left, taken-right, taken-either, distinct-right, parts-apart, distinct-exchanged}
 
 append-assoc : (a b c : List ℕ) → (a ++ b) ++ c ≡ a ++ (b ++ c)
 append-assoc [] b c = refl
