@@ -1,0 +1,3 @@
+// The rules of one call record: what an event that it takes does.
+pub mod incoming;
+pub mod message;
