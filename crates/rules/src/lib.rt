@@ -1,3 +1,4 @@
 // The rules of one call record: what an event that it takes does.
 pub mod incoming;
 pub mod message;
+pub mod outgoing;
