@@ -1,0 +1,97 @@
+// The messages of an answer with leg and arguments, and an effect around them.
+ghost use mathlib.Core.Path.{_≡_};
+ghost use Rattle.call.specs.Record.{freeCall};
+ghost use Rattle.call.specs.Messages.{bare, connectWithDli3, echoOn, one, two, three, sending, silent};
+use call::Call;
+use call::Effect;
+use call::Message;
+use call::Sent;
+
+// A message that has a letter (its ASCII number) and a leg alone.
+pub fn bare(letter: u8, leg: u8) -> Message
+    ensures { λ r. ⌜ r ≡ bare letter leg ⌝ }
+{
+    let mut m = call::no_message();
+    m.letter = letter;
+    m.leg = leg;
+    m
+}
+
+// "D CONNECT with DLI3"
+pub fn connect_with_dli3(leg: u8, flag: u8, number: u16) -> Message
+    ensures { λ r. ⌜ r ≡ connectWithDli3 leg flag number ⌝ }
+{
+    let mut m = bare(68, leg);
+    m.flag = flag;
+    m.number = number;
+    m
+}
+
+// "R result", "E error"
+pub fn echo_on(letter: u8, leg: u8, identifier: u16) -> Message
+    ensures { λ r. ⌜ r ≡ echoOn letter leg identifier ⌝ }
+{
+    let mut m = bare(letter, leg);
+    m.identifier = identifier;
+    m
+}
+
+pub fn one(a: Message) -> Sent
+    ensures { λ r. ⌜ r ≡ one a ⌝ }
+{
+    let none = call::no_message();
+    Sent {
+        first: a,
+        second: none,
+        third: none,
+    }
+}
+
+pub fn two(a: Message, b: Message) -> Sent
+    ensures { λ r. ⌜ r ≡ two a b ⌝ }
+{
+    let none = call::no_message();
+    Sent {
+        first: a,
+        second: b,
+        third: none,
+    }
+}
+
+pub fn three(a: Message, b: Message, c: Message) -> Sent
+    ensures { λ r. ⌜ r ≡ three a b c ⌝ }
+{
+    Sent {
+        first: a,
+        second: b,
+        third: c,
+    }
+}
+
+// An effect whose answer shows the caller nothing and has neither identifier nor counter.
+pub fn sending(c: Call, sent: Sent) -> Effect
+    ensures { λ r. ⌜ r ≡ sending c sent ⌝ }
+{
+    Effect {
+        call: c,
+        sent: sent,
+        notice: 255,
+        number: 0,
+        identifier: 65536,
+        counter: 0,
+    }
+}
+
+pub fn silent(c: Call) -> Effect
+    ensures { λ r. ⌜ r ≡ silent c ⌝ }
+{
+    let nothing = call::no_messages();
+    sending(c, nothing)
+}
+
+// The record is free, and nothing is sent.
+pub fn freed() -> Effect
+    ensures { λ r. ⌜ r ≡ silent freeCall ⌝ }
+{
+    silent(call::free_call())
+}
