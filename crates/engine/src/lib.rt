@@ -8,7 +8,7 @@ ghost use Rattle.ground.specs.Lists.{all, any};
 ghost use Rattle.call.specs.Soundness.{soundCall};
 ghost use Rattle.station.specs.Table.{sound};
 ghost use Rattle.station.specs.Step.{answerOf};
-ghost use Rattle.engine.specs.Board.{namedRefusal, apartIn, soundBoard, refusedBoard, idleBoard, settledBoard, identifierIn, nextWith};
+ghost use Rattle.engine.specs.Board.{namedRefusal, apartIn, soundBoard, refusedBoard, idleBoard, settledBoard, identifierIn, nextWith, Passed, stepSoundBoard, stepBoard};
 use call::Call;
 use call::Effect;
 use desk::Desk;
@@ -196,4 +196,106 @@ pub fn sound_board(b: Board) -> bool
         return false;
     }
     false
+}
+
+// An open, in the lowest free record.
+fn opening(b: Board, d: Desk, e: Event) -> Stepped
+    requires { ⌜ Passed b d e × (e .kind < 4) ⌝ }
+    ensures { λ r. ⌜ r ≡ stepSoundBoard b e ⌝ }
+{
+    let len = b.len;
+    let next = b.station.next;
+    let i = desk::lowest(d.free);
+    if i < len {
+        let x = rules::opened(e);
+        settled(b, e, i, next, x)
+    } else {
+        refused(b, 8)
+    }
+}
+
+// A clock event: the lowest request that is due ends.
+fn ticking(b: Board, d: Desk, e: Event) -> Stepped
+    requires { ⌜ Passed b d e × (e .kind ≡ 10) ⌝ }
+    ensures { λ r. ⌜ r ≡ stepSoundBoard b e ⌝ }
+{
+    let len = b.len;
+    let next = b.station.next;
+    let dues = d.dues;
+    let i = desk::first_past(&dues, e.time);
+    if i < len {
+        let c = b.calls[i];
+        let x = rules::incoming::expired(c);
+        settled(b, e, i, next, x)
+    } else {
+        idle(b, e)
+    }
+}
+
+// An event on the call that it names.
+fn naming(b: Board, d: Desk, e: Event) -> Stepped
+    requires { ⌜ Passed b d e × (4 ≤ e .kind) × (e .kind ≡ 10 → ⊥) ⌝ }
+    ensures { λ r. ⌜ r ≡ stepSoundBoard b e ⌝ }
+{
+    let len = b.len;
+    let s = b.station;
+    let i = e.call as usize;
+    if len <= i {
+        return refused(b, 4);
+    }
+    let c = b.calls[i];
+    let code = named_refusal(s, c, e);
+    if code == 0 {
+        let held = d.held;
+        let identifier = identifier_in(e, &held, s.next);
+        let x = rules::act(c, e, identifier);
+        let next = next_with(e, identifier, s.next);
+        settled(b, e, i, next, x)
+    } else {
+        refused(b, code)
+    }
+}
+
+// One event where the table was tested.
+fn step_tested(b: Board, e: Event) -> Stepped
+    requires { ⌜ b .len ≤ 64 ⌝ }
+    ensures { λ r. ⌜ r ≡ stepSoundBoard b e ⌝ }
+{
+    let len = b.len;
+    let calls = b.calls;
+    let last = b.station.last;
+    let kind = e.kind;
+    if e.time < last {
+        return refused(b, 2);
+    }
+    if event::well_made(e) {
+        let d = desk::summed(calls, len);
+        if kind < 4 {
+            return opening(b, d, e);
+        }
+        if kind == 10 {
+            return ticking(b, d, e);
+        }
+        return naming(b, d, e);
+    }
+    refused(b, 3)
+}
+
+// One event, on any board: the table, the clock and the event are tested.
+pub fn step(b: Board, e: Event) -> Stepped
+    ensures { λ r. ⌜ r ≡ stepBoard b e ⌝ }
+{
+    if sound_board(b) {
+        step_tested(b, e)
+    } else {
+        refused(b, 1)
+    }
+}
+
+// The same for a caller that can show a sound table: it is not tested again.
+pub fn step_on_sound(b: Board, e: Event) -> Stepped
+    requires { ⌜ soundBoard b ≡ true ⌝ }
+    ensures { λ r. ⌜ r ≡ stepBoard b e ⌝ }
+{
+    step_tested(b, e)
 }

@@ -200,9 +200,9 @@ pub fn expired(c: Call) -> Effect
     }
 }
 
-// "4" to "9" and "15"
+// "4" to "9" and "15"; a divert within the limit has a counter below 255
 pub fn act_incoming(c: Call, e: Event, identifier: u16) -> Effect
-    requires { ⌜ c .counter < 255 ⌝ }
+    requires { ⌜ (e .kind ≡ 6 → c .counter < 255) ⌝ }
     ensures { λ r. ⌜ r ≡ actIncoming c e identifier ⌝ }
 {
     let kind = e.kind;

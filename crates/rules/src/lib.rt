@@ -13,7 +13,7 @@ pub mod message;
 pub mod outgoing;
 
 // "1" to "3"
-fn opened(e: Event) -> Effect
+pub fn opened(e: Event) -> Effect
     ensures { λ r. ⌜ r ≡ opened e ⌝ }
 {
     if e.kind == 1 {
@@ -51,9 +51,9 @@ fn act_outgoing(c: Call, e: Event) -> Effect
 }
 
 // What an event that is taken does to its record, by the groups of kinds; the identifier is the one that a request would
-// take. A sound record's counter is 15 at most.
+// take. A divert within the limit has a counter below 255.
 pub fn act(c: Call, e: Event, identifier: u16) -> Effect
-    requires { ⌜ c .counter < 255 ⌝ }
+    requires { ⌜ (e .kind ≡ 6 → c .counter < 255) ⌝ }
     ensures { λ r. ⌜ r ≡ act c e identifier ⌝ }
 {
     let kind = e.kind;

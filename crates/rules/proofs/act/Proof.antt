@@ -44,4 +44,4 @@ returns-5 c =
 
 pub act-spec : {M : Type 1} → statement M
 unfolding act
-act-spec = tie.close (tie.spec (λ c κs. tt) (λ c κs. tt) (λ c κs. tt) (λ c κs. tt) (λ c κs. search needs) (λ c. rw (c .before .match .keys2) (c .expired .ensures)) returns-2 returns-3 returns-4 returns-5)
+act-spec = tie.close (tie.spec (λ c κs. tt) (λ c κs. tt) (λ c κs. tt) (λ c κs. tt) (λ c κs. c .before .pre) (λ c. rw (c .before .match .keys2) (c .expired .ensures)) returns-2 returns-3 returns-4 returns-5)
