@@ -3,3 +3,4 @@ pub mod Boards
 pub mod Sorts
 pub mod Through
 pub mod Found
+pub mod Steps
