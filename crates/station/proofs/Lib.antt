@@ -1,0 +1,3 @@
+pub mod Numbers
+pub mod Stepped
+pub mod Demand1
