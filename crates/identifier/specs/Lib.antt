@@ -1,1 +1,2 @@
 pub mod Identifier
+pub mod Statements

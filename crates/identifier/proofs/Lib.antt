@@ -1,0 +1,4 @@
+pub mod Pigeon
+pub mod Draw
+pub mod Reading
+pub mod Joined

@@ -1,0 +1,47 @@
+-- What the draw of an identifier and the test `distinct` amount to, for any list of identifiers of open requests. The
+-- theorems are in proofs/Draw, proofs/Reading and proofs/Joined.
+use Prim.Native.Nat.{ℕ, zero, suc, _≤_, _<_}
+use mathlib.Core.Path.{_≡_}
+use mathlib.Core.Bool.{true}
+use mathlib.Core.Logic.{_↔_}
+use mathlib.Core.List.{List}
+use lib.Dec.{T}
+use lib.ListN.{length, getD}
+use Rattle.identifier.specs.Identifier.{after, taken, distinct, drawn}
+
+-- the identifier that lies so many steps from one on, round after 65,535
+unfoldable pub candidate : ℕ → ℕ → ℕ
+candidate next zero = next
+candidate next (suc steps) = candidate (after next) steps
+
+-- "the first identifier from the next one on that no open request has": all that lie before it are taken, and it is not
+pub record First (held : List ℕ) (next identifier : ℕ) : Type 0 where
+  pub steps : ℕ
+  pub is : identifier ≡ candidate next steps
+  pub before : (i : ℕ) → i < steps → T (taken held (candidate next i))
+  pub free : T (taken held identifier) → ⊥
+
+-- where at most 64 requests are open, no open request has the identifier drawn
+abbrev pub Free : Type 0
+Free = (held : List ℕ) (next : ℕ) → length held ≤ 64 → T (taken held (drawn held next)) → ⊥
+
+-- it is the first such from the next on, and the only one that is so
+abbrev pub DrawsFirst : Type 0
+DrawsFirst = (held : List ℕ) (next : ℕ) → length held ≤ 64 → First held next (drawn held next)
+
+abbrev pub OnlyFirst : Type 0
+OnlyFirst = (held : List ℕ) (next identifier : ℕ) → length held ≤ 64 → First held next identifier → identifier ≡ drawn held next
+
+-- an identifier has 16 bits: drawn from one that has, and the one after any
+abbrev pub DrawsSmall : Type 0
+DrawsSmall = (held : List ℕ) (next : ℕ) → next < 65536 → drawn held next < 65536
+
+abbrev pub AfterSmall : Type 0
+AfterSmall = (identifier : ℕ) → after identifier < 65536
+
+-- "no two Requested records share an identifier", place by place
+abbrev pub Apart : List ℕ → Type 0
+Apart held = (i j : ℕ) → i < length held → j < length held → getD held i 0 ≡ getD held j 0 → i ≡ j
+
+abbrev pub DistinctReads : Type 0
+DistinctReads = (held : List ℕ) → distinct held ≡ true ↔ Apart held
