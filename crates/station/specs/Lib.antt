@@ -3,3 +3,4 @@ pub mod Table
 pub mod Refusals
 pub mod Step
 pub mod Demand1
+pub mod Demand2
