@@ -6,3 +6,4 @@ pub mod Requests
 pub mod Places
 pub mod Lowest
 pub mod Addressed
+pub mod Kept

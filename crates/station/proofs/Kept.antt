@@ -1,0 +1,120 @@
+-- "Each done event leaves a sound table." Assumes nothing.
+use Prim.Native.Nat.{ℕ, zero, suc, _≤_, _<_}
+use native.Mathlib.Omega.{arith}
+use mathlib.Core.Path.{_≡_, refl, sym}
+use mathlib.Core.Bool.{Bool, true, false, not, _&&_}
+use mathlib.Core.List.{List, [], _∷_}
+use lib.Dec.{T, leb, leb→le, le→leb}
+use lib.ListN.{length, set, length-set, replicate, length-replicate}
+use Rattle.ground.specs.Choice.{when_then_else_}
+use Rattle.ground.specs.Lists.{all}
+use Rattle.ground.proofs.Bools.{and-l, and-r, and-i, is-true, from-true}
+use Rattle.ground.proofs.Walks.{all-set, all-get}
+use Rattle.event.specs.declared.Event.{Event}
+use Rattle.event.specs.WellMade.{wellMade}
+use Rattle.identifier.specs.Identifier.{distinct}
+use Rattle.call.specs.declared.Call.{Call}
+use Rattle.call.specs.Record.{freeCall, requested}
+use Rattle.call.specs.Soundness.{soundCall}
+use Rattle.call.specs.State.{stateForbids}
+use Rattle.call.specs.Act.{act}
+use Rattle.station.specs.declared.Station.{Station}
+use Rattle.station.specs.Station.{limitOk, freshStation}
+use Rattle.station.specs.Table.{at, requestsOf, sound, identifierFor, place}
+use Rattle.station.specs.Refusals.{wrongCall}
+use Rattle.station.specs.Step.{Outcome, stationAfter, effectAt, settled, noneDue, step, outcomes, Ran, runStep, runOn}
+use Rattle.station.specs.Demand2.{Apart, StepSound, OutcomesSound, RunSound, FreshSound}
+use Rattle.station.proofs.Numbers.{Passed}
+use Rattle.station.proofs.Stepped.{Stepped, refuses, settles, passes, stepped}
+use Rattle.station.proofs.Whole.{Whole, whole, sound-of}
+use Rattle.station.proofs.Requests.{apart-of, distinct-of, apart-set, sound-draws}
+use Rattle.station.proofs.Addressed.{Addressed, addressed}
+
+-- what each element of a list keeps
+all-later : {A : Type 0} (p q : A → Bool) → ((x : A) → T (p x) → T (q x)) → (l : List A) → T (all p l) → T (all q l)
+unfolding all
+all-later p q f [] h = h
+all-later p q f (x ∷ xs) h = and-i (q x) (all q xs) (f x (and-l (p x) (all p xs) h)) (all-later p q f xs (and-r (p x) (all p xs) h))
+
+module _
+    (sound-later : (last time : ℕ) (c : Call) → last ≤ time → T (soundCall last c) → T (soundCall time c))
+    (act-kept : (last : ℕ) (c : Call) (e : Event) (k : ℕ) → T (soundCall last c) → last ≤ e .time → T (wellMade e) → T (not (wrongCall c e)) → T (not (stateForbids c e)) → T (soundCall (e .time) (act c e k .call)))
+    (act-request : (last : ℕ) (c : Call) (e : Event) (k : ℕ) → T (soundCall last c) → T (wellMade e) → T (not (wrongCall c e)) → T (not (stateForbids c e)) → T (requested (act c e k .call)) → act c e k .call .identifier ≡ k)
+  where
+    module _ (s : Station) (calls : List Call) (e : Event) (p : Passed s calls e) where
+      w : Whole s calls
+      w = whole s calls (p .whole)
+
+      -- a later last time
+      records-later : T (all (soundCall (e .time)) calls)
+      records-later = all-later (soundCall (s .last)) (soundCall (e .time)) (λ c h. sound-later (s .last) (e .time) c (p .timely) h) calls (w .records)
+
+      passes-sound : T (sound (stationAfter s calls e) calls)
+      passes-sound =
+          sound-of (stationAfter s calls e) calls
+          (record { some = w .some; few = w .few; limit = w .limit; records = records-later; apart = w .apart })
+
+      settles-sound : place calls e < length calls
+          → T (sound (stationAfter s calls e) (set calls (place calls e) (effectAt s calls e (place calls e) .call)))
+      settles-sound l =
+          let i = place calls e in
+          let c = at calls i in
+          let k = identifierFor s calls in
+          let x = act c e k .call in
+          let a : Addressed c e = addressed s calls e p in
+          let h : T (soundCall (s .last) c) =
+          from-true (soundCall (s .last) c) (all-get (soundCall (s .last)) calls i freeCall (is-true (all (soundCall (s .last)) calls) (w .records)) l) in
+          let g : T (soundCall (e .time) x) = act-kept (s .last) c e k h (p .timely) (p .made) (a .right) (a .allowed) in
+          let r : all (soundCall (e .time)) (set calls i x) ≡ true =
+          all-set (soundCall (e .time)) calls i x (is-true (all (soundCall (e .time)) calls) records-later) (is-true (soundCall (e .time) x) g) in
+          let n = length-set calls i x in
+          let d : Apart (set calls i x) =
+          apart-set calls i x l (apart-of calls (w .apart)) (λ t j o.
+          let q : x .identifier ≡ k = act-request (s .last) c e k h (p .made) (a .right) (a .allowed) t in
+          sound-draws s calls (p .whole) .free j (rw q at o)) in
+          sound-of (stationAfter s calls e) (set calls i x)
+          (record {
+            some = rw n (w .some);
+            few = rw n (w .few);
+            limit = w .limit;
+            records = from-true (all (soundCall (e .time)) (set calls i x)) r;
+            apart = distinct-of (set calls i x) d;
+          })
+
+    sound-after : {s : Station} {calls : List Call} {e : Event} {o : Outcome} → Stepped s calls e o → T (sound s calls) → T (sound (o .station) (o .calls))
+    sound-after (refuses n q) h = h
+    sound-after {s} {calls} {e} (settles p l) h = settles-sound s calls e p l
+    sound-after {s} {calls} {e} (passes p l) h = passes-sound s calls e p
+
+    pub step-sound : StepSound
+    step-sound s calls e h = sound-after (stepped s calls e) h
+
+    pub outcomes-sound : OutcomesSound
+    unfolding outcomes all
+    outcomes-sound s calls [] h = tt
+    outcomes-sound s calls (e ∷ rest) h =
+        let o = step s calls e in
+        let g = step-sound s calls e h in
+        and-i (sound (o .station) (o .calls)) (all (λ o. sound (o .station) (o .calls)) (outcomes (o .station) (o .calls) rest)) g (outcomes-sound (o .station) (o .calls) rest g)
+
+    pub run-sound : RunSound
+    unfolding runOn
+    run-sound r [] h = h
+    run-sound r (e ∷ rest) h = run-sound (runStep r e) rest (step-sound (r .station) (r .calls) e h)
+
+all-free : (n last : ℕ) → T (all (soundCall last) (replicate n freeCall))
+unfolding all soundCall
+all-free zero last = tt
+all-free (suc n) last = all-free n last
+
+none-asked : (n : ℕ) → requestsOf (replicate n freeCall) ≡ []
+unfolding requestsOf
+none-asked zero = refl
+none-asked (suc n) = none-asked n
+
+pub fresh-sound : FreshSound
+unfolding distinct
+fresh-sound limit n h a b =
+    let l = length-replicate n freeCall in
+    sound-of (freshStation limit) (replicate n freeCall)
+    (record { some = rw l (le→leb 1 n a); few = rw l (le→leb n 64 b); limit = h; records = all-free n 0; apart = rw (none-asked n) tt })
