@@ -7,3 +7,4 @@ pub mod Places
 pub mod Lowest
 pub mod Addressed
 pub mod Kept
+pub mod Clocks
