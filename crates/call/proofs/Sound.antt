@@ -1,0 +1,132 @@
+-- A sound record by its parts: free, outgoing or incoming, each with the sentences that it keeps. Assumes nothing.
+use Prim.Native.Nat.{ℕ, _≤_}
+use native.Mathlib.Omega.{arith}
+use mathlib.Core.Path.{_≡_, refl, sym}
+use mathlib.Core.Bool.{Bool, true, false, not, _&&_, _||_}
+use lib.Dec.{T, leb, eqb, eqb→eq, leb→le, le→leb, T-not}
+use Rattle.ground.specs.Choice.{when_then_else_}
+use Rattle.ground.proofs.Bools.{and-l, and-r, and-i, or-right, eq→eqb, by-cases, is-true, is-false, from-true, from-false, trivial}
+use Rattle.call.specs.declared.Call.{Call}
+use Rattle.call.specs.Record.{isFree, isOutgoing, isIncoming, requested, freeCall}
+use Rattle.call.specs.Soundness.{outgoingUnused, incomingUnused, outgoingCodes, partyThere, waitingHolds, historyHolds, divertHolds, soundOutgoing, incomingCodes, ownThere, cdfHolds, numbersHold, requestHolds, excludes, waitHolds, startHolds, soundIncoming, soundCall}
+
+pub record Outgoing (c : Call) : Type 0 where
+  pub unused : T (incomingUnused c)
+  pub codes : T (outgoingCodes c)
+  pub party : T (partyThere c)
+  pub waiting : T (waitingHolds c)
+  pub history : T (historyHolds (c .history))
+  pub divert : T (divertHolds c)
+
+pub record Incoming (last : ℕ) (c : Call) : Type 0 where
+  pub unused : T (outgoingUnused c)
+  pub codes : T (incomingCodes c)
+  pub own : T (ownThere c)
+  pub cdf : T (cdfHolds c)
+  pub numbers : T (numbersHold c)
+  pub request : T (requestHolds c)
+  pub apart : T (excludes c)
+  pub wait : T (waitHolds c)
+  pub start : T (startHolds last c)
+
+-- what a sound record is
+pub data Sound (last : ℕ) (c : Call) : Type 0 where
+  free : c ≡ freeCall → Sound last c
+  outgoing : T (isOutgoing c) → Outgoing c → Sound last c
+  incoming : T (isIncoming c) → Incoming last c → Sound last c
+
+ruleset parts = (and-l, and-r, eqb→eq)
+
+-- "each unused field is 0": each field of a free record
+record AllZero (c : Call) : Type 0 where
+  direction : c .direction ≡ 0
+  basic : c .basic ≡ 0
+  cdo : c .cdo ≡ 0
+  cdr : c .cdr ≡ 0
+  cds : c .cds ≡ 0
+  cdf : c .cdf ≡ 0
+  granted : c .granted ≡ 0
+  counter : c .counter ≡ 0
+  party : c .party ≡ 0
+  waiting-reason : c .waiting .reason ≡ 0
+  waiting-option : c .waiting .option ≡ 0
+  waiting-number : c .waiting .number ≡ 0
+  seen : c .history .seen ≡ 0
+  strictest : c .history .strictest ≡ 0
+  forbidden : c .history .forbidden ≡ 0
+  shown : c .history .shown ≡ 0
+  nominated : c .history .nominated ≡ 0
+  own : c .own ≡ 0
+  diverting : c .diverting ≡ 0
+  original : c .original ≡ 0
+  identifier : c .identifier ≡ 0
+  reason : c .reason ≡ 0
+  start : c .start ≡ 0
+
+zeros : (c : Call) → T (isFree c) → T (eqb (c .basic) 0 && outgoingUnused c && incomingUnused c) → AllZero c
+zeros c d h = search parts depth 20
+
+all-zero : (c : Call) → AllZero c → c ≡ freeCall
+all-zero c w = λ z. record {
+  direction = w .direction z;
+  basic = w .basic z;
+  cdo = w .cdo z;
+  cdr = w .cdr z;
+  cds = w .cds z;
+  cdf = w .cdf z;
+  granted = w .granted z;
+  counter = w .counter z;
+  party = w .party z;
+  waiting = record { reason = w .waiting-reason z; option = w .waiting-option z; number = w .waiting-number z };
+  history = record {
+    seen = w .seen z;
+    strictest = w .strictest z;
+    forbidden = w .forbidden z;
+    shown = w .shown z;
+    nominated = w .nominated z;
+  };
+  own = w .own z;
+  diverting = w .diverting z;
+  original = w .original z;
+  identifier = w .identifier z;
+  reason = w .reason z;
+  start = w .start z;
+}
+
+-- the test and its parts, by the direction
+pub free-of : (last : ℕ) (c : Call) → T (soundCall last c) → T (isFree c) → c ≡ freeCall
+unfolding soundCall
+free-of last c h d = all-zero c (zeros c d (simp (is-true (isFree c) d) at h))
+
+pub outgoing-of : (last : ℕ) (c : Call) → T (soundCall last c) → T (isOutgoing c) → Outgoing c
+unfolding soundCall soundOutgoing
+outgoing-of last c h d = let g : T (soundOutgoing c) = rw (eqb→eq (c .direction) 1 d) at h in search parts depth 8
+
+pub incoming-of : (last : ℕ) (c : Call) → T (soundCall last c) → T (isIncoming c) → Incoming last c
+unfolding soundCall soundIncoming
+incoming-of last c h d = let g : T (soundIncoming last c) = rw (eqb→eq (c .direction) 2 d) at h in search parts depth 11
+
+pub free-sound : (last : ℕ) → T (soundCall last freeCall)
+unfolding soundCall
+free-sound last = tt
+
+pub outgoing-sound : (last : ℕ) (c : Call) → T (isOutgoing c) → Outgoing c → T (soundCall last c)
+unfolding soundCall soundOutgoing
+outgoing-sound last c d w = let g : T (soundOutgoing c) = search and-i depth 8 in rw (eqb→eq (c .direction) 1 d) g
+
+pub incoming-sound : (last : ℕ) (c : Call) → T (isIncoming c) → Incoming last c → T (soundCall last c)
+unfolding soundCall soundIncoming
+incoming-sound last c d w = let g : T (soundIncoming last c) = search and-i depth 11 in rw (eqb→eq (c .direction) 2 d) g
+
+pub sound-view : (last : ℕ) (c : Call) → T (soundCall last c) → Sound last c
+unfolding soundCall
+sound-view last c h =
+    by-cases (isFree c) (λ a. free (free-of last c h (from-true (isFree c) a))) (λ a.
+    by-cases (isOutgoing c) (λ b. let d = from-true (isOutgoing c) b in outgoing d (outgoing-of last c h d)) (λ b.
+    by-cases (isIncoming c) (λ i. let d = from-true (isIncoming c) i in incoming d (incoming-of last c h d)) (λ i.
+    absurd (simp (a, b, i) at h))))
+
+pub sound-whole : (last : ℕ) (c : Call) → Sound last c → T (soundCall last c)
+sound-whole last c (free e) = rw e (free-sound last)
+sound-whole last c (outgoing d w) = outgoing-sound last c d w
+sound-whole last c (incoming d w) = incoming-sound last c d w
