@@ -6,5 +6,7 @@ pub mod Requests
 pub mod Places
 pub mod Lowest
 pub mod Addressed
+pub mod Named
+pub mod Asking
 pub mod Kept
 pub mod Clocks
