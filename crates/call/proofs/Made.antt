@@ -20,7 +20,7 @@ pub data Made (e : Event) : Type 0 where
   rejects : e .kind ≡ 8 → T (outcomeFields e) → Made e
   legFails : e .kind ≡ 9 → T (callOnly e) → Made e
   clocks : e .kind ≡ 10 → T (clockFields e) → Made e
-  ends : e .kind ≡ 11 → T (callOnly e) → Made e
+  endsOwn : e .kind ≡ 11 → T (callOnly e) → Made e
   invokes : e .kind ≡ 12 → T (reroutingFields e) → Made e
   informs : e .kind ≡ 13 → T (dli1Fields e) → Made e
   messages : e .kind ≡ 14 → T (messageFields e) → Made e
@@ -43,7 +43,7 @@ made e h =
     kind-is e 8 (λ k. rejects k (simp (k, or-false) at h)) (λ n8.
     kind-is e 9 (λ k. legFails k (simp (k, or-false) at h)) (λ n9.
     kind-is e 10 (λ k. clocks k (simp (k, or-false) at h)) (λ n10.
-    kind-is e 11 (λ k. ends k (simp (k, or-false) at h)) (λ n11.
+    kind-is e 11 (λ k. endsOwn k (simp (k, or-false) at h)) (λ n11.
     kind-is e 12 (λ k. invokes k (simp (k, or-false) at h)) (λ n12.
     kind-is e 13 (λ k. informs k (simp (k, or-false) at h)) (λ n13.
     kind-is e 14 (λ k. messages k (simp k at h)) (λ n14.

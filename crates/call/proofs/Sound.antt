@@ -11,6 +11,7 @@ use Rattle.call.specs.Record.{isFree, isOutgoing, isIncoming, requested,
 use Rattle.call.specs.Soundness.{outgoingUnused, incomingUnused, outgoingCodes, partyThere, waitingHolds, historyHolds, divertHolds, soundOutgoing, incomingCodes, ownThere, cdfHolds, numbersHold, requestHolds, excludes, waitHolds, startHolds, soundIncoming, soundCall}
 
 pub record Outgoing (c : Call) : Type 0 where
+  pub direction : T (isOutgoing c)
   pub unused : T (incomingUnused c)
   pub codes : T (outgoingCodes c)
   pub party : T (partyThere c)
@@ -19,6 +20,7 @@ pub record Outgoing (c : Call) : Type 0 where
   pub divert : T (divertHolds c)
 
 pub record Incoming (last : ℕ) (c : Call) : Type 0 where
+  pub direction : T (isIncoming c)
   pub unused : T (outgoingUnused c)
   pub codes : T (incomingCodes c)
   pub own : T (ownThere c)
@@ -32,8 +34,8 @@ pub record Incoming (last : ℕ) (c : Call) : Type 0 where
 -- what a sound record is
 pub data Sound (last : ℕ) (c : Call) : Type 0 where
   free : c ≡ freeCall → Sound last c
-  outgoing : T (isOutgoing c) → Outgoing c → Sound last c
-  incoming : T (isIncoming c) → Incoming last c → Sound last c
+  outgoing : Outgoing c → Sound last c
+  incoming : Incoming last c → Sound last c
 
 ruleset parts = (and-l, and-r, eqb→eq)
 
@@ -110,23 +112,23 @@ pub free-sound : (last : ℕ) → T (soundCall last freeCall)
 unfolding soundCall
 free-sound last = tt
 
-pub outgoing-sound : (last : ℕ) (c : Call) → T (isOutgoing c) → Outgoing c → T (soundCall last c)
+pub outgoing-sound : (last : ℕ) {c : Call} → Outgoing c → T (soundCall last c)
 unfolding soundCall soundOutgoing
-outgoing-sound last c d w = let g : T (soundOutgoing c) = search and-i depth 8 in rw (eqb→eq (c .direction) 1 d) g
+outgoing-sound last {c} w = let g : T (soundOutgoing c) = search and-i depth 8 in rw (eqb→eq (c .direction) 1 (w .direction)) g
 
-pub incoming-sound : (last : ℕ) (c : Call) → T (isIncoming c) → Incoming last c → T (soundCall last c)
+pub incoming-sound : {last : ℕ} {c : Call} → Incoming last c → T (soundCall last c)
 unfolding soundCall soundIncoming
-incoming-sound last c d w = let g : T (soundIncoming last c) = search and-i depth 11 in rw (eqb→eq (c .direction) 2 d) g
+incoming-sound {last} {c} w = let g : T (soundIncoming last c) = search and-i depth 11 in rw (eqb→eq (c .direction) 2 (w .direction)) g
 
 pub sound-view : (last : ℕ) (c : Call) → T (soundCall last c) → Sound last c
 unfolding soundCall
 sound-view last c h =
     by-cases (isFree c) (λ a. free (free-of last c h (from-true (isFree c) a))) (λ a.
-    by-cases (isOutgoing c) (λ b. let d = from-true (isOutgoing c) b in outgoing d (outgoing-of last c h d)) (λ b.
-    by-cases (isIncoming c) (λ i. let d = from-true (isIncoming c) i in incoming d (incoming-of last c h d)) (λ i.
+    by-cases (isOutgoing c) (λ b. outgoing (outgoing-of last c h (from-true (isOutgoing c) b))) (λ b.
+    by-cases (isIncoming c) (λ i. incoming (incoming-of last c h (from-true (isIncoming c) i))) (λ i.
     absurd (simp (a, b, i) at h))))
 
 pub sound-whole : (last : ℕ) (c : Call) → Sound last c → T (soundCall last c)
 sound-whole last c (free e) = rw e (free-sound last)
-sound-whole last c (outgoing d w) = outgoing-sound last c d w
-sound-whole last c (incoming d w) = incoming-sound last c d w
+sound-whole last c (outgoing w) = outgoing-sound last w
+sound-whole last c (incoming w) = incoming-sound w
