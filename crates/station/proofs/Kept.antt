@@ -18,6 +18,7 @@ use Rattle.call.specs.Record.{freeCall, requested}
 use Rattle.call.specs.Soundness.{soundCall}
 use Rattle.call.specs.State.{stateForbids}
 use Rattle.call.specs.Act.{act}
+use Rattle.call.proofs.Kept.{sound-later, act-kept}
 use Rattle.station.specs.declared.Station.{Station}
 use Rattle.station.specs.Station.{limitOk, freshStation}
 use Rattle.station.specs.Table.{at, requestsOf, sound, identifierFor, place}
@@ -37,8 +38,6 @@ all-later p q f [] h = h
 all-later p q f (x ∷ xs) h = and-i (q x) (all q xs) (f x (and-l (p x) (all p xs) h)) (all-later p q f xs (and-r (p x) (all p xs) h))
 
 module _
-    (sound-later : (last time : ℕ) (c : Call) → last ≤ time → T (soundCall last c) → T (soundCall time c))
-    (act-kept : (last : ℕ) (c : Call) (e : Event) (k : ℕ) → T (soundCall last c) → last ≤ e .time → T (wellMade e) → T (not (wrongCall c e)) → T (not (stateForbids c e)) → T (soundCall (e .time) (act c e k .call)))
     (act-request : (last : ℕ) (c : Call) (e : Event) (k : ℕ) → T (soundCall last c) → T (wellMade e) → T (not (wrongCall c e)) → T (not (stateForbids c e)) → T (requested (act c e k .call)) → act c e k .call .identifier ≡ k)
   where
     module _ (s : Station) (calls : List Call) (e : Event) (p : Passed s calls e) where
@@ -64,7 +63,7 @@ module _
           let a : Addressed c e = addressed s calls e p in
           let h : T (soundCall (s .last) c) =
           from-true (soundCall (s .last) c) (all-get (soundCall (s .last)) calls i freeCall (is-true (all (soundCall (s .last)) calls) (w .records)) l) in
-          let g : T (soundCall (e .time) x) = act-kept (s .last) c e k h (p .timely) (p .made) (a .right) (a .allowed) in
+          let g : T (soundCall (e .time) x) = act-kept (s .last) k c e h (p .timely) (p .made) (a .right) (a .allowed) in
           let r : all (soundCall (e .time)) (set calls i x) ≡ true =
           all-set (soundCall (e .time)) calls i x (is-true (all (soundCall (e .time)) calls) records-later) (is-true (soundCall (e .time) x) g) in
           let n = length-set calls i x in
