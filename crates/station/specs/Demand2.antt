@@ -93,8 +93,8 @@ LengthStays = (s : Station) (calls : List Call) (e : Event) → length (step s c
 -- "7: Idle, granted. 8: Idle, not granted.": the request of that call with that identifier ends, and every other record stays
 pub record Settles (before : List Call) (e : Event) (o : Outcome) : Type 0 where
   pub request : Open before (e .call) (e .identifier)
-  pub idle : T (not (requested (at (o .calls) (e .call))))
-  pub granted : granted (at (o .calls) (e .call)) ≡ eqb (e .kind) 7
+  pub over : T (not (requested (at (o .calls) (e .call))))
+  pub grants : granted (at (o .calls) (e .call)) ≡ eqb (e .kind) 7
   pub others : (j : ℕ) → (j ≡ e .call → ⊥) → at (o .calls) j ≡ at before j
 
 abbrev pub OutcomeSettles : Type 0

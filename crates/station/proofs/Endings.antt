@@ -1,0 +1,126 @@
+-- How an open request ends: by a result, error or reject of its own, and by nothing else than the five ways. Assumes nothing.
+use Prim.Native.Nat.{ℕ, suc, _≤_, _<_}
+use native.Mathlib.Decide.{ℕ-discrete}
+use native.Mathlib.Omega.{arith}
+use mathlib.Core.Path.{_≡_, refl, sym, _∙_}
+use mathlib.Core.Bool.{Bool, true, false, not, _&&_, _||_}
+use mathlib.Core.Option.{some}
+use mathlib.Core.List.{List}
+use lib.Dec.{T, eqb, eqb→eq}
+use lib.ListN.{length, set}
+use lib.Seq.{getD-set-same, getD-set-other}
+use Rattle.ground.specs.Choice.{when_then_else_}
+use Rattle.ground.specs.Lists.{all}
+use Rattle.ground.proofs.Bools.{nor-l, not-not, is-true, from-true}
+use Rattle.ground.proofs.Walks.{all-get}
+use Rattle.event.specs.declared.Event.{Event}
+use Rattle.event.specs.Kinds.{opens, answersRequest}
+use Rattle.call.specs.declared.Call.{Call}
+use Rattle.call.specs.Record.{freeCall, isFree, requested, granted}
+use Rattle.call.specs.Soundness.{soundCall}
+use Rattle.call.specs.State.{stateForbids}
+use Rattle.call.specs.Incoming.{idle, grant, actIncoming}
+use Rattle.call.specs.Act.{act}
+use Rattle.call.proofs.Denials.{denied}
+use Rattle.call.proofs.Made.{made}
+use Rattle.station.specs.declared.Station.{Station}
+use Rattle.station.specs.Table.{at, sound, identifierFor, place}
+use Rattle.station.specs.Refusals.{refusal}
+use Rattle.station.specs.Step.{Outcome, effectAt, settled, step}
+use Rattle.station.specs.Demand1.{codeOf, Refusal}
+use Rattle.station.specs.Demand2.{Open, Settles, OutcomeSettles, Foreign, ForeignStays, Ended, EndsOnly, EndsIndeed}
+use Rattle.station.proofs.Numbers.{Passed}
+use Rattle.station.proofs.Stepped.{Stepped, refuses, settles, passes, stepped}
+use Rattle.station.proofs.Demand1.{code-refusal, refusal-stays}
+use Rattle.station.proofs.Whole.{Whole, whole}
+use Rattle.station.proofs.Places.{others-stay}
+use Rattle.station.proofs.Lowest.{lowest-passes, within}
+use Rattle.station.proofs.Addressed.{Addressed, addressed}
+use Rattle.station.proofs.Named.{names, Acts, named-acts}
+use Rattle.station.proofs.Ending.{Ends, taken-ends}
+
+-- either way the event is done on the record of its call, whose request it ends
+settle : (s : Station) (calls : List Call) (e : Event) (x : Call) → T (answersRequest e) → place calls e ≡ e .call → Acts s calls e (step s calls e)
+    → T (requested (at calls (e .call))) → act (at calls (e .call)) e (identifierFor s calls) .call ≡ x → T (not (requested x)) → granted x ≡ eqb (e .kind) 7
+    → Settles calls e (step s calls e)
+settle s calls e x t h a r q n g =
+    let c = at calls (e .call) in
+    let i : T (eqb (e .identifier) (c .identifier)) = denied (answersRequest e) (eqb (e .identifier) (c .identifier)) (a .passed .identified) t in
+    let y : at (step s calls e .calls) (e .call) ≡ x = rw (a .leaves, q) (getD-set-same calls (e .call) x freeCall (a .there)) in
+    record {
+      request = record { asked = r; bears = sym (eqb→eq (e .identifier) (c .identifier) i) };
+      over = rw y n;
+      grants = rw y g;
+      others = λ j d. others-stay s calls e j (λ u. d (u ∙ h));
+    }
+
+result-settles : (s : Station) (calls : List Call) (e : Event) → e .kind ≡ 7 → codeOf s calls e ≡ 0 → Settles calls e (step s calls e)
+unfolding stateForbids act actIncoming
+result-settles s calls e k z =
+    let c = at calls (e .call) in
+    let a = named-acts s calls e (rw k tt) (rw k) z in
+    let m = rw k at (a .passed .taken) in
+    let r : T (not (not (requested c))) = search nor-l in
+    settle s calls e (grant c) (rw k tt) (rw k) a (not-not (requested c) r) (rw k) tt (rw k)
+
+reject-settles : (s : Station) (calls : List Call) (e : Event) → e .kind ≡ 8 → codeOf s calls e ≡ 0 → Settles calls e (step s calls e)
+unfolding stateForbids act actIncoming
+reject-settles s calls e k z =
+    let c = at calls (e .call) in
+    let a = named-acts s calls e (rw k tt) (rw k) z in
+    let m = rw k at (a .passed .taken) in
+    let r : T (not (not (requested c))) = search nor-l in
+    settle s calls e (idle c) (rw k tt) (rw k) a (not-not (requested c) r) (rw k) tt (rw k)
+
+pub outcome-settles : OutcomeSettles
+outcome-settles s calls e t z = go (eqb (e .kind) 7) refl t
+  where
+    go : (b : Bool) → eqb (e .kind) 7 ≡ b → T (b || eqb (e .kind) 8) → Settles calls e (step s calls e)
+    go true q h = result-settles s calls e (eqb→eq (e .kind) 7 (from-true (eqb (e .kind) 7) q)) z
+    go false q h = reject-settles s calls e (eqb→eq (e .kind) 8 h) z
+
+pub foreign-stays : ForeignStays
+foreign-stays s calls e t n =
+    let d : codeOf s calls e ≡ 0 → ⊥ = λ z. n (outcome-settles s calls e t z .request) in
+    let r = refusal-stays s calls e d in
+    record { refused = d; station = r .station; calls = r .calls }
+
+-- the request at the place of an event that is done
+opens-free : (calls : List Call) (e : Event) → place calls e < length calls → T (opens e) → T (isFree (at calls (place calls e)))
+opens-free calls e l t = let q = is-true (opens e) t in rw q (lowest-passes isFree freeCall calls (rw q at l))
+
+ends-there : (s : Station) (calls : List Call) (e : Event) → Passed s calls e → place calls e < length calls → T (requested (at calls (place calls e)))
+    → Ends (at calls (place calls e)) e (identifierFor s calls)
+ends-there s calls e p l r =
+    let i = place calls e in
+    let w = whole s calls (p .whole) in
+    let h = all-get (soundCall (s .last)) calls i freeCall (is-true (all (soundCall (s .last)) calls) (w .records)) l in
+    taken-ends (s .last) (identifierFor s calls) (at calls i) e (from-true (soundCall (s .last) (at calls i)) h) r (addressed s calls e p) (opens-free calls e l) (made e (p .made))
+
+only : {s : Station} {calls : List Call} {e : Event} {o : Outcome} (i k : ℕ) → Stepped s calls e o → Open calls i k → (Open (o .calls) i k → ⊥) → Ended s calls e i
+only i k (refuses n q) a f = absurd (f a)
+only {s} {calls} {e} i k (settles p l) a f = go (ℕ-discrete i (place calls e))
+  where
+    go : Dec (i ≡ place calls e) → Ended s calls e i
+    go (yes q) =
+        let x = ends-there s calls e p l (rw (← q) (a .asked)) in
+        record { done = code-refusal s calls e ∙ p .number; here = sym q; way = x .way; kind = x .kind }
+    go (no n) =
+        let y = getD-set-other calls (place calls e) i (effectAt s calls e (place calls e) .call) freeCall n in
+        absurd (f (record { asked = rw y (a .asked); bears = rw y (a .bears) }))
+only i k (passes p l) a f = absurd (f a)
+
+pub ends-only : EndsOnly
+ends-only s calls e i k a f = only i k (stepped s calls e) a f
+
+indeed : {s : Station} {calls : List Call} {e : Event} {o : Outcome} (i : ℕ) → Stepped s calls e o → T (requested (at calls i)) → place calls e ≡ i
+    → refusal s calls e ≡ 0 → T (not (requested (at (o .calls) i)))
+indeed i (refuses n q) r h z = absurd (omega arith)
+indeed {s} {calls} {e} i (settles p l) r h z =
+    let x = effectAt s calls e (place calls e) .call in
+    let y = getD-set-same calls (place calls e) x freeCall l in
+    rw (← h) (rw y (ends-there s calls e p l (rw h r) .over))
+indeed {s} {calls} {e} i (passes p l) r h z = let m = within requested freeCall calls i tt r in absurd (omega arith)
+
+pub ends-indeed : EndsIndeed
+ends-indeed s calls e i r x = indeed i (stepped s calls e) r (x .here) (sym (code-refusal s calls e) ∙ x .done)
