@@ -5,7 +5,7 @@ use mathlib.Core.Path.{_≡_}
 use mathlib.Core.Bool.{Bool, true, false, not, _&&_, _||_}
 use lib.Dec.{T, leb, eqb, eqb→eq, leb→le, le→leb, not-T}
 use Rattle.ground.specs.Choice.{when_then_else_}
-use Rattle.ground.proofs.Bools.{and-l, and-r, and-i, or-inl, or-inr, nor-r, when-has, trivial}
+use Rattle.ground.proofs.Bools.{and-l, and-r, and-i, or-inl, or-inr, nor-l, nor-r, when-has, trivial}
 use Rattle.ground.proofs.Walks.{and-false}
 use Rattle.event.specs.declared.Event.{Event}
 use Rattle.event.specs.Kinds.{cfu, cfb, cfnr}
@@ -57,22 +57,31 @@ unheld {last} {c} w p n =
     let f : T (only (requested c || granted c) (fits (c .reason) c)) = search joins in
     stays (requested c || granted c) (eqb (c .reason) cfu || eqb (c .reason) cfb) (eqb (c .reason) cfnr) (rw (eqb→eq (c .basic) 1 p) at f) n
 
--- the record that an effect leaves
-abbrev pub Leaves : ℕ → Effect → Type 0
-Leaves last x = Incoming last (x .call)
+-- a sound record with no open request
+pub record Unasked (last : ℕ) (c : Call) : Type 0 where
+  pub sound : Incoming last c
+  pub unasked : T (not (requested c))
+
+-- of the record that an effect leaves
+abbrev Leaves : ℕ → Effect → Type 0
+Leaves last x = Unasked last (x .call)
 
 -- "4: Proceeding becomes Received"
 pub alerted-kept : {last : ℕ} {c : Call} → Incoming last c → T (proceeding c) → T (not (leaving c)) → Leaves last (alerted c)
-alerted-kept {last} {c} w p n = basic-kept 2 w (unheld w p n) tt tt (never (wait c))
+alerted-kept {last} {c} w p n =
+    let q = unheld w p n in
+    record { sound = basic-kept 2 w q tt tt (never (wait c)); unasked = nor-l (requested c) (granted c) q }
 
 -- "5: Proceeding or Received becomes Active .. in Wait .. CDF is done. .. Kind 5 ends an open cfnr request or grant (ours)."
 pub answered-kept : {last : ℕ} {c : Call} (e : Event) → Incoming last c → Leaves last (answered c e)
 answered-kept {last} {c} e w =
-    when-has (Leaves last) (wait c) (λ f. basic-kept 3 (done-kept (idle-kept w) f) tt tt tt tt) (λ n. basic-kept 3 (idle-kept w) tt tt tt (denied-l (wait c) true n))
+    when-has (Leaves last) (wait c)
+    (λ f. record { sound = basic-kept 3 (done-kept (idle-kept w) f) tt tt tt tt; unasked = tt })
+    (λ n. record { sound = basic-kept 3 (idle-kept w) tt tt tt (denied-l (wait c) true n); unasked = tt })
 
 -- "6: .. Enters Requested, starts T1."
 pub diverted-kept : {c : Call} (e : Event) (identifier : ℕ) → Incoming (e .time) c → T (fits (e .reason) c) → T (leb (e .reason) 3) → T (not (requested c || granted c))
-    → Leaves (e .time) (diverted c e identifier)
+    → Incoming (e .time) (diverted c e identifier .call)
 diverted-kept {c} e identifier w f l q = let a = fits-apart (e .reason) c f in search joins depth 12
 
 -- "7: Idle, granted."

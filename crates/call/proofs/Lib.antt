@@ -4,3 +4,4 @@ pub mod Made
 pub mod KeptIncoming
 pub mod KeptOutgoing
 pub mod Kept
+pub mod Requests

@@ -15,7 +15,7 @@ pub data Made (e : Event) : Type 0 where
   opensDiverted : e .kind ≡ 3 → T (openDivertedFields e) → Made e
   alerts : e .kind ≡ 4 → T (callOnly e) → Made e
   answers : e .kind ≡ 5 → T (answerFields e) → Made e
-  diverts : e .kind ≡ 6 → T (divertFields e) → Made e
+  divertsCall : e .kind ≡ 6 → T (divertFields e) → Made e
   results : e .kind ≡ 7 → T (outcomeFields e) → Made e
   rejects : e .kind ≡ 8 → T (outcomeFields e) → Made e
   legFails : e .kind ≡ 9 → T (callOnly e) → Made e
@@ -38,7 +38,7 @@ made e h =
     kind-is e 3 (λ k. opensDiverted k (simp (k, or-false) at h)) (λ n3.
     kind-is e 4 (λ k. alerts k (simp (k, or-false) at h)) (λ n4.
     kind-is e 5 (λ k. answers k (simp (k, or-false) at h)) (λ n5.
-    kind-is e 6 (λ k. diverts k (simp (k, or-false) at h)) (λ n6.
+    kind-is e 6 (λ k. divertsCall k (simp (k, or-false) at h)) (λ n6.
     kind-is e 7 (λ k. results k (simp (k, or-false) at h)) (λ n7.
     kind-is e 8 (λ k. rejects k (simp (k, or-false) at h)) (λ n8.
     kind-is e 9 (λ k. legFails k (simp (k, or-false) at h)) (λ n9.

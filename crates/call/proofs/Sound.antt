@@ -1,11 +1,10 @@
 -- A sound record by its parts: free, outgoing or incoming, each with the sentences that it keeps. Assumes nothing.
 use Prim.Native.Nat.{ℕ, _≤_}
 use native.Mathlib.Omega.{arith}
-use mathlib.Core.Path.{_≡_, refl, sym}
-use mathlib.Core.Bool.{Bool, true, false, not, _&&_, _||_}
-use lib.Dec.{T, leb, eqb, eqb→eq, leb→le, le→leb, T-not}
-use Rattle.ground.specs.Choice.{when_then_else_}
-use Rattle.ground.proofs.Bools.{and-l, and-r, and-i, or-right, eq→eqb, by-cases, is-true, is-false, from-true, from-false, trivial}
+use mathlib.Core.Path.{_≡_}
+use mathlib.Core.Bool.{not, _&&_}
+use lib.Dec.{T, leb, eqb, eqb→eq, leb→le, T-not, not-T}
+use Rattle.ground.proofs.Bools.{and-l, and-r, and-i, by-cases, is-true, from-true}
 use Rattle.call.specs.declared.Call.{Call}
 use Rattle.call.specs.Record.{isFree, isOutgoing, isIncoming, requested, freeCall}
 use Rattle.call.specs.Soundness.{outgoingUnused, incomingUnused, outgoingCodes, partyThere, waitingHolds, historyHolds, divertHolds, soundOutgoing, incomingCodes, ownThere, cdfHolds, numbersHold, requestHolds, excludes, waitHolds, startHolds, soundIncoming, soundCall}
@@ -132,3 +131,27 @@ pub sound-whole : (last : ℕ) (c : Call) → Sound last c → T (soundCall last
 sound-whole last c (free e) = rw e (free-sound last)
 sound-whole last c (outgoing w) = outgoing-sound last w
 sound-whole last c (incoming w) = incoming-sound w
+
+pub unasked : (c : Call) → T (incomingUnused c) → T (not (requested c))
+unasked c h = let z : c .cds ≡ 0 = search parts depth 12 in rw z tt
+
+-- an open request is one of an incoming call
+pub requested-incoming : (last : ℕ) (c : Call) → T (soundCall last c) → T (requested c) → Incoming last c
+requested-incoming last c h r = go (sound-view last c h)
+  where
+    go : Sound last c → Incoming last c
+    go (free e) = absurd (rw e at r)
+    go (outgoing w) = absurd (T-not (requested c) (unasked c (w .unused)) r)
+    go (incoming w) = w
+
+pub other-unasked : (last : ℕ) (c : Call) → T (soundCall last c) → T (not (isIncoming c)) → T (not (requested c))
+other-unasked last c h n = not-T (requested c) (λ r. T-not (isIncoming c) n (requested-incoming last c h r .direction))
+
+-- "no T1 start is after the last time"
+pub start-past : (last : ℕ) (c : Call) → T (soundCall last c) → c .start ≤ last
+start-past last c h = go (sound-view last c h)
+  where
+    go : Sound last c → c .start ≤ last
+    go (free e) = rw e (omega arith)
+    go (outgoing w) = let z : c .start ≡ 0 = search parts depth 12 in omega arith
+    go (incoming w) = leb→le (c .start) last (w .start)
