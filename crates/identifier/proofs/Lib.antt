@@ -2,3 +2,4 @@ pub mod Pigeon
 pub mod Draw
 pub mod Reading
 pub mod Joined
+pub mod Gathered

@@ -1,5 +1,5 @@
 -- What the draw of an identifier and the test `distinct` amount to, for any list of identifiers of open requests. The
--- theorems are in proofs/Draw, proofs/Reading and proofs/Joined.
+-- theorems are in proofs/Draw and proofs/Reading; proofs/Joined and proofs/Gathered have the laws for a table.
 use Prim.Native.Nat.{ℕ, zero, suc, _≤_, _<_}
 use mathlib.Core.Path.{_≡_}
 use mathlib.Core.Bool.{true}
