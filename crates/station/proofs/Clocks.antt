@@ -27,12 +27,13 @@ use Rattle.station.specs.Table.{at, sound, identifierFor, place}
 use Rattle.station.specs.Refusals.{refusalOnSound, refusal}
 use Rattle.station.specs.Step.{Outcome, effectAt, settled, step, Ran, runStep, runOn, run}
 use Rattle.station.specs.Demand1.{codeOf}
-use Rattle.station.specs.Demand2.{StepSound, NothingDue, LowestDue, Expires, ClockEnds, Passes, ClockPasses, Cleared, SixtyFour}
+use Rattle.station.specs.Demand2.{NothingDue, LowestDue, Expires, ClockEnds, Passes, ClockPasses, Cleared, SixtyFour}
 use Rattle.station.proofs.Numbers.{Passed}
 use Rattle.station.proofs.Stepped.{Stepped, refuses, settles, passes, stepped}
 use Rattle.station.proofs.Demand1.{code-refusal, done-passed, done-timed}
 use Rattle.station.proofs.Lowest.{count, lowest-passes, within, lowest-is, lowest-none, count-none, count-length, count-lowest}
 use Rattle.station.proofs.Whole.{whole}
+use Rattle.station.proofs.Kept.{step-sound}
 
 abbrev kindOf : (e : Event) → T (clock e) → e .kind ≡ 10
 kindOf e t = eqb→eq (e .kind) 10 t
@@ -98,7 +99,7 @@ unfolding refusal refusalOnSound stateForbids
 clock-done s calls e t m h l =
     code-refusal s calls e ∙ rw (is-true (sound s calls) h, le-ltb (e .time) (s .last) l, is-true (wellMade e) m, kindOf e t)
 
-module _ (step-sound : StepSound) (e : Event) (t : T (clock e)) (m : T (wellMade e)) where
+module _ (e : Event) (t : T (clock e)) (m : T (wellMade e)) where
   -- so many in a row
   clocks : (n : ℕ) (r : Ran) → T (sound (r .station) (r .calls)) → r .station .last ≤ e .time
       → (runOn r (replicate n e) .done ≡ r .done + n) × (runOn r (replicate n e) .refused ≡ r .refused)
@@ -126,6 +127,5 @@ module _ (step-sound : StepSound) (e : Event) (t : T (clock e)) (m : T (wellMade
       let z : count p (r .calls) ≡ 0 = omega arith in
       record { done = a; refused = b; none = count-none p freeCall (r .calls) tt z }
 
-module _ (step-sound : StepSound) where
-  pub sixty-four : SixtyFour
-  sixty-four s calls e t z = let p = done-passed s calls e z in cleared step-sound e t (p .made) s calls (p .whole) (p .timely)
+pub sixty-four : SixtyFour
+sixty-four s calls e t z = let p = done-passed s calls e z in cleared e t (p .made) s calls (p .whole) (p .timely)

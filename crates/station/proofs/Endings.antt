@@ -1,43 +1,40 @@
 -- How an open request ends: by a result, error or reject of its own, and by nothing else than the five ways. Assumes nothing.
-use Prim.Native.Nat.{ℕ, suc, _≤_, _<_}
+use Prim.Native.Nat.{ℕ, _<_}
 use native.Mathlib.Decide.{ℕ-discrete}
 use native.Mathlib.Omega.{arith}
 use mathlib.Core.Path.{_≡_, refl, sym, _∙_}
-use mathlib.Core.Bool.{Bool, true, false, not, _&&_, _||_}
-use mathlib.Core.Option.{some}
+use mathlib.Core.Bool.{Bool, true, false, not, _||_}
+use mathlib.Core.Option.{some, none}
 use mathlib.Core.List.{List}
 use lib.Dec.{T, eqb, eqb→eq}
-use lib.ListN.{length, set}
+use lib.ListN.{length}
 use lib.Seq.{getD-set-same, getD-set-other}
 use Rattle.ground.specs.Choice.{when_then_else_}
-use Rattle.ground.specs.Lists.{all}
-use Rattle.ground.proofs.Bools.{nor-l, not-not, is-true, from-true}
-use Rattle.ground.proofs.Walks.{all-get}
+use Rattle.ground.proofs.Bools.{nor-l, not-not, from-true}
 use Rattle.event.specs.declared.Event.{Event}
-use Rattle.event.specs.Kinds.{opens, answersRequest}
+use Rattle.event.specs.Kinds.{opens, answersRequest, clock, ends}
 use Rattle.call.specs.declared.Call.{Call}
 use Rattle.call.specs.Record.{freeCall, isFree, requested, granted}
-use Rattle.call.specs.Soundness.{soundCall}
+use Rattle.call.specs.Soundness.{only as onlyWith}
 use Rattle.call.specs.State.{stateForbids}
 use Rattle.call.specs.Incoming.{idle, grant, actIncoming}
 use Rattle.call.specs.Act.{act}
 use Rattle.call.proofs.Denials.{denied}
-use Rattle.call.proofs.Made.{made}
+use Rattle.call.proofs.Requests.{endsRequest, request-ends, request-ended}
 use Rattle.station.specs.declared.Station.{Station}
-use Rattle.station.specs.Table.{at, sound, identifierFor, place}
+use Rattle.station.specs.Table.{at, identifierFor, place}
 use Rattle.station.specs.Refusals.{refusal}
-use Rattle.station.specs.Step.{Outcome, effectAt, settled, step}
-use Rattle.station.specs.Demand1.{codeOf, Refusal}
-use Rattle.station.specs.Demand2.{Open, Settles, OutcomeSettles, Foreign, ForeignStays, Ended, EndsOnly, EndsIndeed}
+use Rattle.station.specs.Step.{Outcome, effectAt, step}
+use Rattle.station.specs.Demand1.{codeOf}
+use Rattle.station.specs.Demand2.{Open, Settles, OutcomeSettles, Foreign, ForeignStays, Ending, result, reject, expiry, answered, closed, Ended, EndsOnly, EndsIndeed}
 use Rattle.station.proofs.Numbers.{Passed}
 use Rattle.station.proofs.Stepped.{Stepped, refuses, settles, passes, stepped}
 use Rattle.station.proofs.Demand1.{code-refusal, refusal-stays}
-use Rattle.station.proofs.Whole.{Whole, whole}
+use Rattle.station.proofs.Whole.{record-sound}
 use Rattle.station.proofs.Places.{others-stay}
 use Rattle.station.proofs.Lowest.{lowest-passes, within}
-use Rattle.station.proofs.Addressed.{Addressed, addressed}
-use Rattle.station.proofs.Named.{names, Acts, named-acts}
-use Rattle.station.proofs.Ending.{Ends, taken-ends}
+use Rattle.station.proofs.Addressed.{addressed-there}
+use Rattle.station.proofs.Named.{Acts, named-acts}
 
 -- either way the event is done on the record of its call, whose request it ends
 settle : (s : Station) (calls : List Call) (e : Event) (x : Call) → T (answersRequest e) → place calls e ≡ e .call → Acts s calls e (step s calls e)
@@ -85,17 +82,40 @@ foreign-stays s calls e t n =
     let r = refusal-stays s calls e d in
     record { refused = d; station = r .station; calls = r .calls }
 
--- the request at the place of an event that is done
-opens-free : (calls : List Call) (e : Event) → place calls e < length calls → T (opens e) → T (isFree (at calls (place calls e)))
-opens-free calls e l t = let q = is-true (opens e) t in rw q (lowest-passes isFree freeCall calls (rw q at l))
+-- an open acts on a free record
+opens-only : (calls : List Call) (e : Event) → place calls e < length calls → T (onlyWith (opens e) (isFree (at calls (place calls e))))
+opens-only calls e l = go (opens e) refl
+  where
+    go : (b : Bool) → opens e ≡ b → T (onlyWith b (isFree (at calls (place calls e))))
+    go true q = rw q (lowest-passes isFree freeCall calls (rw q at l))
+    go false q = tt
 
-ends-there : (s : Station) (calls : List Call) (e : Event) → Passed s calls e → place calls e < length calls → T (requested (at calls (place calls e)))
-    → Ends (at calls (place calls e)) e (identifierFor s calls)
+-- it is an event that ends requests, and it has ended
+pub record Ends (s : Station) (calls : List Call) (e : Event) : Type 0 where
+  pub kind : T (endsRequest e)
+  pub over : T (not (requested (effectAt s calls e (place calls e) .call)))
+
+ends-there : (s : Station) (calls : List Call) (e : Event) → Passed s calls e → place calls e < length calls → T (requested (at calls (place calls e))) → Ends s calls e
 ends-there s calls e p l r =
-    let i = place calls e in
-    let w = whole s calls (p .whole) in
-    let h = all-get (soundCall (s .last)) calls i freeCall (is-true (all (soundCall (s .last)) calls) (w .records)) l in
-    taken-ends (s .last) (identifierFor s calls) (at calls i) e (from-true (soundCall (s .last) (at calls i)) h) r (addressed s calls e p) (opens-free calls e l) (made e (p .made))
+    let c = at calls (place calls e) in
+    let h = record-sound s calls (p .whole) (place calls e) l in
+    let (a, b) = addressed-there s calls e p in
+    record {
+      kind = request-ends (s .last) c e h r (p .made) (opens-only calls e l) a b;
+      over = request-ended (s .last) (identifierFor s calls) c e h (p .timely) r (p .made) a b;
+    }
+
+-- the ending that such a kind brings
+way-of : (a b c d f g : Bool) → T (a || b || c || d || f || g)
+    → (w : Ending)
+    × ((when a then some result else when b then some reject else when c then some expiry else when d then some answered else when f || g then some closed else none) ≡ some w)
+way-of true b c d f g t = (result, refl)
+way-of false true c d f g t = (reject, refl)
+way-of false false true d f g t = (expiry, refl)
+way-of false false false true f g t = (answered, refl)
+way-of false false false false true g t = (closed, refl)
+way-of false false false false false true t = (closed, refl)
+way-of false false false false false false t = absurd t
 
 only : {s : Station} {calls : List Call} {e : Event} {o : Outcome} (i k : ℕ) → Stepped s calls e o → Open calls i k → (Open (o .calls) i k → ⊥) → Ended s calls e i
 only i k (refuses n q) a f = absurd (f a)
@@ -104,7 +124,8 @@ only {s} {calls} {e} i k (settles p l) a f = go (ℕ-discrete i (place calls e))
     go : Dec (i ≡ place calls e) → Ended s calls e i
     go (yes q) =
         let x = ends-there s calls e p l (rw (← q) (a .asked)) in
-        record { done = code-refusal s calls e ∙ p .number; here = sym q; way = x .way; kind = x .kind }
+        let (w, k) = way-of (eqb (e .kind) 7) (eqb (e .kind) 8) (clock e) (eqb (e .kind) 5) (ends e) (eqb (e .kind) 15) (x .kind) in
+        record { done = code-refusal s calls e ∙ p .number; here = sym q; way = w; kind = k }
     go (no n) =
         let y = getD-set-other calls (place calls e) i (effectAt s calls e (place calls e) .call) freeCall n in
         absurd (f (record { asked = rw y (a .asked); bears = rw y (a .bears) }))

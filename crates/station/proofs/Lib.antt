@@ -8,7 +8,6 @@ pub mod Lowest
 pub mod Addressed
 pub mod Named
 pub mod Asking
-pub mod Ending
 pub mod Endings
 pub mod Kept
 pub mod Clocks

@@ -1,20 +1,19 @@
 -- The open requests of a table by their places, and the identifier that the next one takes. Assumes nothing.
 use Prim.Native.Nat.{ℕ, zero, suc, _≤_, _<_, zero-le, suc-le-suc}
-use native.Mathlib.Decide.{ℕ-discrete}
 use native.Mathlib.Omega.{arith}
 use mathlib.Core.Path.{_≡_, refl, ap, sym, _∙_}
 use mathlib.Core.Bool.{Bool, true, false, _||_}
-use mathlib.Core.List.{List, [], _∷_}
+use mathlib.Core.List.{List, [], _∷_, _++_}
 use lib.Dec.{T, eqb, eqb→eq, leb→le}
 use lib.ListN.{length, set}
-use lib.Seq.{getD-set-same, getD-set-other}
 use Rattle.ground.specs.Choice.{when_then_else_}
 use Rattle.ground.specs.Lists.{any}
-use Rattle.ground.proofs.Bools.{or-inl, or-inr, eq→eqb, is-true, from-true, when-has}
+use Rattle.ground.proofs.Bools.{or-inl, or-inr, or-left, eq→eqb, is-true, from-true, when-has}
 use Rattle.identifier.specs.Identifier.{taken, distinct}
 use Rattle.identifier.specs.Statements.{First}
 use Rattle.identifier.proofs.Pigeon.{crowded}
 use Rattle.identifier.proofs.Draw as draw
+use Rattle.identifier.proofs.Gathered.{distinct-set}
 use Rattle.identifier.proofs.Reading.{head-apart, tail-distinct, distinct-cons}
 use Rattle.call.specs.declared.Call.{Call}
 use Rattle.call.specs.Record.{freeCall, requested}
@@ -96,25 +95,34 @@ distinct-reads s calls = (apart-of calls, distinct-of calls)
 pub sound-apart : SoundApart
 sound-apart s calls h = apart-of calls (whole s calls h .apart)
 
--- a record stored whose request, if it has one, bears an identifier that no open request has
-module _ (calls : List Call) (i : ℕ) (x : Call) (l : i < length calls) where
-  here : (k : ℕ) → Open (set calls i x) i k → T (requested x) × (x .identifier ≡ k)
-  here k o = let e = getD-set-same calls i x freeCall l in (rw e at (o .asked), rw e at (o .bears))
+-- what one record adds
+abbrev own : Call → List ℕ
+own c = when requested c then c .identifier ∷ [] else []
 
-  there : (j k : ℕ) → (j ≡ i → ⊥) → Open (set calls i x) j k → Open calls j k
-  there j k n o = let e = getD-set-other calls i j x freeCall n in record { asked = rw e at (o .asked); bears = rw e at (o .bears) }
+joins : (c : Call) (rest : List Call) → requestsOf (c ∷ rest) ≡ own c ++ requestsOf rest
+unfolding requestsOf
+joins c rest =
+    elim (requested c) as (λ b. (when b then c .identifier ∷ requestsOf rest else requestsOf rest) ≡ (when b then c .identifier ∷ [] else []) ++ requestsOf rest)
+    [ true ↦ refl | false ↦ refl ]
 
-  pub apart-set : Apart calls → (T (requested x) → (j : ℕ) → Open calls j (x .identifier) → ⊥) → Apart (set calls i x)
-  apart-set p f a b k u v = go (ℕ-discrete a i) (ℕ-discrete b i) u v
-    where
-      fresh : (j : ℕ) → (j ≡ i → ⊥) → Open (set calls i x) i k → Open (set calls i x) j k → ⊥
-      fresh j n u v = let (r, q) = here k u in f r j (rw q (there j k n v))
+own-distinct : (c : Call) → T (distinct (own c))
+unfolding distinct any
+own-distinct c = when-has (λ held. T (distinct held)) (requested c) (λ _. tt) (λ _. tt)
 
-      go : Dec (a ≡ i) → Dec (b ≡ i) → Open (set calls i x) a k → Open (set calls i x) b k → a ≡ b
-      go (yes m) (yes n) u v = m ∙ sym n
-      go (yes m) (no n) u v = absurd (fresh b n (rw m at u) v)
-      go (no m) (yes n) u v = absurd (fresh a m (rw n at v) u)
-      go (no m) (no n) u v = p a b k (there a k m u) (there b k n v)
+own-taken : (c : Call) (k : ℕ) → T (taken (own c) k) → T (requested c) × (k ≡ c .identifier)
+unfolding any
+own-taken c k t = go (requested c) refl t
+  where
+    go : (b : Bool) → requested c ≡ b → T (taken (when b then c .identifier ∷ [] else []) k) → T (requested c) × (k ≡ c .identifier)
+    go true q h = (from-true (requested c) q, eqb→eq k (c .identifier) (or-left (eqb k (c .identifier)) false (λ f. f) h))
+    go false q h = absurd h
+
+-- a record is stored whose request, if it has one, bears an identifier that no open request has
+pub requests-set : (calls : List Call) (i : ℕ) (x : Call) → i < length calls → T (distinct (requestsOf calls))
+    → (T (requested x) → T (taken (requestsOf calls) (x .identifier)) → ⊥) → T (distinct (requestsOf (set calls i x)))
+requests-set calls i x l d f =
+    distinct-set own requestsOf joins calls i freeCall x l d (own-distinct x)
+    (λ k t u. let (r, q) = own-taken x k t in absurd (f r (rw q at u)))
 
 requests-length : (calls : List Call) → length (requestsOf calls) ≤ length calls
 unfolding requestsOf
