@@ -1,5 +1,5 @@
 -- What the denial of a conjunction tells. Assumes nothing.
-use mathlib.Core.Bool.{Bool, true, false, not, _&&_, _||_}
+use mathlib.Core.Bool.{Bool, true, false, not, _&&_}
 use lib.Dec.{T}
 
 pub denied : (a b : Bool) → T (not (a && not b)) → T a → T b

@@ -2,21 +2,19 @@
 use Prim.Native.Nat.{ℕ, _≤_}
 use native.Mathlib.Omega.{arith}
 use mathlib.Core.Path.{_≡_, refl}
-use mathlib.Core.Bool.{Bool, true, false, not, _&&_, _||_}
-use lib.Dec.{T, leb, eqb, eqb→eq, leb→le, le→leb, T-not, not-T}
-use Rattle.ground.specs.Choice.{when_then_else_}
+use mathlib.Core.Bool.{Bool, false, not, _&&_, _||_}
+use lib.Dec.{T, leb, leb→le, le→leb, T-not, not-T}
 use Rattle.ground.proofs.Bools.{and-l, and-r, and-i, nor-l, nor-r, not-not, when-has, trivial}
 use Rattle.event.specs.declared.Event.{Event}
 use Rattle.event.specs.Kinds.{ofIncoming, ofOutgoing, diverts, ends, facility, releaseComplete, onLeg2}
 use Rattle.event.specs.WellMade.{wellMade}
 use Rattle.call.specs.declared.Call.{Call}
 use Rattle.call.specs.declared.Effect.{Effect}
-use Rattle.call.specs.Record.{isFree, isOutgoing, isIncoming, proceeding, active, requested, granted, wait, divert, invoked, fits, freeCall}
-use Rattle.call.specs.Fields.{basic-is}
+use Rattle.call.specs.Record.{isFree, isOutgoing, isIncoming, proceeding, active, requested, granted, divert, invoked, fits, freeCall}
 use Rattle.call.specs.Soundness.{startHolds, soundCall}
 use Rattle.call.specs.State.{leaving, stateForbids}
-use Rattle.call.specs.Incoming.{openedIncoming, alerted, idle, answered, diverted, grant, actIncoming}
-use Rattle.call.specs.Outgoing.{openedOutgoing, rerouted, informed, cdrIdle, takenOver, onFirstLeg, leftAlone, messaged, actOutgoing}
+use Rattle.call.specs.Incoming.{idle, actIncoming}
+use Rattle.call.specs.Outgoing.{messaged, actOutgoing}
 use Rattle.call.specs.Act.{ended, act}
 use Rattle.call.proofs.Denials.{denied}
 use Rattle.call.proofs.Sound.{Outgoing, Incoming, Sound, free, outgoing, incoming, outgoing-of, incoming-of, free-sound, outgoing-sound, incoming-sound, sound-view, unasked}
@@ -52,6 +50,15 @@ pub to-outgoing : (c : Call) (e : Event) → T (addressed c e) → T (ofOutgoing
 to-outgoing c e a t =
     let n : T (not (ofOutgoing e && not (isOutgoing c))) = search (nor-l, nor-r) in
     denied (ofOutgoing e) (isOutgoing c) n t
+
+-- "4: Proceeding becomes Received .. 5 if Requested or granted with cfu or cfb": a sound record that takes it has neither
+pub alerts-unheld : {last : ℕ} (c : Call) (e : Event) → e .kind ≡ 4 → T (not (stateForbids c e)) → Incoming last c → T (not (requested c || granted c))
+unfolding stateForbids
+alerts-unheld c e k n w =
+    let m = rw k at n in
+    let p : T (not (not (proceeding c))) = search (nor-l, nor-r) depth 8 in
+    let q : T (not (leaving c)) = search (nor-l, nor-r) depth 8 in
+    inc.unheld w (not-not (proceeding c) p) q
 
 -- a record after an event: sound, and a request that it holds is one that the event, a divert, opened
 record Left (time identifier : ℕ) (diverting : Bool) (c : Call) : Type 0 where
@@ -94,7 +101,8 @@ module _ (identifier : ℕ) (c : Call) (e : Event) (h : T (soundCall (e .time) c
   unfolding stateForbids
   messaged-left diverting k =
       let w = as-outgoing (rw k tt) in
-      let m : T (not (((facility e && onLeg2 e) || (active c && not (releaseComplete e))) || ((onLeg2 e && not (invoked c)) || (facility e && not (divert c))))) = rw k at n in
+      let m : T (not (((facility e && onLeg2 e) || (active c && not (releaseComplete e)))
+      || ((onLeg2 e && not (invoked c)) || (facility e && not (divert c))))) = rw k at n in
       let p : T (not (active c && not (releaseComplete e))) = search (nor-l, nor-r) depth 8 in
       let q : T (not (onLeg2 e && not (invoked c))) = search (nor-l, nor-r) depth 8 in
       when-has (Leaves (e .time) identifier diverting) (releaseComplete e)
@@ -113,11 +121,9 @@ module _ (identifier : ℕ) (c : Call) (e : Event) (h : T (soundCall (e .time) c
   left (opensIncoming k f) = rw k (left-incoming (rw k at (inc.opened-kept e k f)) tt)
   left (opensDiverted k f) = rw k (left-incoming (rw k at (inc.opened-diverted-kept e k f)) tt)
   left (alerts k f) =
-      let m = rw k at n in
-      let p : T (not (not (proceeding c))) = search (nor-l, nor-r) depth 8 in
-      let q : T (not (leaving c)) = search (nor-l, nor-r) depth 8 in
-      let r = inc.alerted-kept (as-incoming (rw k tt)) (not-not (proceeding c) p) q in
-      rw k (left-incoming (r .sound) (r .unasked))
+      let w = as-incoming (rw k tt) in
+      let q = alerts-unheld c e k n w in
+      rw k (left-incoming (inc.alerted-kept w q) (nor-l (requested c) (granted c) q))
   left (answers k f) = let r = inc.answered-kept e (as-incoming (rw k tt)) in rw k (left-incoming (r .sound) (r .unasked))
   left (divertsCall k f) =
       let m = rw k at n in
@@ -143,11 +149,11 @@ module _ (identifier : ℕ) (c : Call) (e : Event) (h : T (soundCall (e .time) c
   left (farEnds k f) = rw k left-free
 
 -- "Each done event leaves a sound table": the record that the event acts on
-pub act-kept : (last identifier : ℕ) (c : Call) (e : Event) → T (soundCall last c) → last ≤ e .time → T (wellMade e) → T (addressed c e) → T (not (stateForbids c e))
-    → T (soundCall (e .time) (act c e identifier .call))
+pub act-kept : (last identifier : ℕ) (c : Call) (e : Event) → T (soundCall last c) → last ≤ e .time → T (wellMade e) → T (addressed c e)
+    → T (not (stateForbids c e)) → T (soundCall (e .time) (act c e identifier .call))
 act-kept last identifier c e h l f a n = left identifier c e (sound-later last (e .time) c l h) a n (made e f) .sound
 
 -- after an event a record is Requested only if the event is a divert, and then with the identifier that was drawn
-pub act-request : (last identifier : ℕ) (c : Call) (e : Event) → T (soundCall last c) → last ≤ e .time → T (wellMade e) → T (addressed c e) → T (not (stateForbids c e))
-    → T (requested (act c e identifier .call)) → T (diverts e) × (act c e identifier .call .identifier ≡ identifier)
+pub act-request : (last identifier : ℕ) (c : Call) (e : Event) → T (soundCall last c) → last ≤ e .time → T (wellMade e) → T (addressed c e)
+    → T (not (stateForbids c e)) → T (requested (act c e identifier .call)) → T (diverts e) × (act c e identifier .call .identifier ≡ identifier)
 act-request last identifier c e h l f a n = left identifier c e (sound-later last (e .time) c l h) a n (made e f) .request

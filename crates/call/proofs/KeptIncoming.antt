@@ -4,8 +4,7 @@ use native.Mathlib.Omega.{arith}
 use mathlib.Core.Path.{_≡_}
 use mathlib.Core.Bool.{Bool, true, false, not, _&&_, _||_}
 use lib.Dec.{T, leb, eqb, eqb→eq, leb→le, le→leb, not-T}
-use Rattle.ground.specs.Choice.{when_then_else_}
-use Rattle.ground.proofs.Bools.{and-l, and-r, and-i, or-inl, or-inr, nor-l, nor-r, when-has, trivial}
+use Rattle.ground.proofs.Bools.{and-l, and-r, and-i, or-inl, or-inr, nor-r, when-has, trivial}
 use Rattle.ground.proofs.Walks.{and-false}
 use Rattle.event.specs.declared.Event.{Event}
 use Rattle.event.specs.Kinds.{cfu, cfb, cfnr}
@@ -57,6 +56,10 @@ unheld {last} {c} w p n =
     let f : T (only (requested c || granted c) (fits (c .reason) c)) = search joins in
     stays (requested c || granted c) (eqb (c .reason) cfu || eqb (c .reason) cfb) (eqb (c .reason) cfnr) (rw (eqb→eq (c .basic) 1 p) at f) n
 
+-- "4: Proceeding becomes Received"
+pub alerted-kept : {last : ℕ} {c : Call} → Incoming last c → T (not (requested c || granted c)) → Incoming last (alerted c .call)
+alerted-kept {last} {c} w q = basic-kept 2 w q tt tt (never (wait c))
+
 -- a sound record with no open request
 pub record Unasked (last : ℕ) (c : Call) : Type 0 where
   pub sound : Incoming last c
@@ -65,12 +68,6 @@ pub record Unasked (last : ℕ) (c : Call) : Type 0 where
 -- of the record that an effect leaves
 abbrev Leaves : ℕ → Effect → Type 0
 Leaves last x = Unasked last (x .call)
-
--- "4: Proceeding becomes Received"
-pub alerted-kept : {last : ℕ} {c : Call} → Incoming last c → T (proceeding c) → T (not (leaving c)) → Leaves last (alerted c)
-alerted-kept {last} {c} w p n =
-    let q = unheld w p n in
-    record { sound = basic-kept 2 w q tt tt (never (wait c)); unasked = nor-l (requested c) (granted c) q }
 
 -- "5: Proceeding or Received becomes Active .. in Wait .. CDF is done. .. Kind 5 ends an open cfnr request or grant (ours)."
 pub answered-kept : {last : ℕ} {c : Call} (e : Event) → Incoming last c → Leaves last (answered c e)

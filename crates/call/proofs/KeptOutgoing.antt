@@ -1,8 +1,8 @@
 -- What the rules for outgoing calls make of a sound record is sound. Assumes nothing.
-use Prim.Native.Nat.{ℕ, min, _≤_}
+use Prim.Native.Nat.{ℕ, min}
 use native.Mathlib.Omega.{arith}
 use mathlib.Core.Path.{_≡_}
-use mathlib.Core.Bool.{Bool, true, false, not, _&&_, _||_}
+use mathlib.Core.Bool.{Bool, true, false, not, _&&_}
 use lib.Dec.{T, leb, eqb, eqb→eq, leb→le, le→leb, T-not}
 use Rattle.ground.specs.Choice.{when_then_else_}
 use Rattle.ground.proofs.Bools.{and-l, and-r, and-i, or-inl, nor-l, nor-r, is-true, is-false, by-cases, when-has, trivial}
@@ -11,13 +11,13 @@ use Rattle.event.specs.Kinds.{cfnr, alerting, connect}
 use Rattle.event.specs.WellMade.{openFields, reroutingFields, dli1Fields}
 use Rattle.notice.specs.declared.Dli1.{Dli1}
 use Rattle.notice.specs.declared.History.{History}
-use Rattle.notice.specs.Notice.{seen, strictestWith, afterDli1, takeDli1, mayShow, forbidden, afterDli3}
+use Rattle.notice.specs.Notice.{seen, strictestWith, takeDli1, afterDli3}
 use Rattle.call.specs.declared.Call.{Call}
 use Rattle.call.specs.declared.Effect.{Effect}
 use Rattle.call.specs.Record.{active, delivered, divert, invoked, forwardedParty}
 use Rattle.call.specs.Fields.{basic-is, cdo-is, cdr-is, party-is, waiting-is, history-is}
 use Rattle.call.specs.Soundness.{exactly, waitingHolds, historyHolds, dli1Unused}
-use Rattle.call.specs.Outgoing.{openedOutgoing, dli1Of, toCdo, handOver, cdrIdle, movedOver, withDli3, afterMessage, turnsDown, rerouted, informed, takenOver, onFirstLeg, leftAlone}
+use Rattle.call.specs.Outgoing.{openedOutgoing, dli1Of, toCdo, cdrIdle, movedOver, withDli3, afterMessage, turnsDown, rerouted, informed, takenOver, onFirstLeg, leftAlone}
 use Rattle.call.proofs.Denials.{denied, never}
 use Rattle.call.proofs.Sound.{Outgoing}
 

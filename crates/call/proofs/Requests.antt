@@ -2,23 +2,21 @@
 use Prim.Native.Nat.{ℕ, _≤_}
 use native.Mathlib.Omega.{arith}
 use mathlib.Core.Path.{_≡_}
-use mathlib.Core.Bool.{Bool, true, false, not, _&&_, _||_}
+use mathlib.Core.Bool.{Bool, false, not, _&&_, _||_}
 use borrow.Author.Tests.{lt-leb, ne-eqb}
 use lib.Dec.{T, leb, eqb, eqb→eq, leb→le, T-not, not-T}
-use Rattle.ground.specs.Choice.{when_then_else_}
 use Rattle.ground.proofs.Bools.{and-l, and-r, and-i, nor-l, nor-r, not-not}
 use Rattle.event.specs.declared.Event.{Event}
 use Rattle.event.specs.Kinds.{opens, diverts, answersRequest, clock, ends}
 use Rattle.event.specs.WellMade.{wellMade}
 use Rattle.call.specs.declared.Call.{Call}
-use Rattle.call.specs.Record.{isFree, isOutgoing, isIncoming, proceeding, requested, granted}
+use Rattle.call.specs.Record.{isFree, isOutgoing, requested, granted}
 use Rattle.call.specs.Soundness.{only, soundCall}
-use Rattle.call.specs.State.{leaving, grantedCfnr, stateForbids}
+use Rattle.call.specs.State.{grantedCfnr, stateForbids}
 use Rattle.call.specs.Act.{act}
 use Rattle.call.proofs.Sound.{Incoming, requested-incoming}
 use Rattle.call.proofs.Made.{Made, opensOutgoing, opensIncoming, opensDiverted, alerts, answers, divertsCall, results, rejects, legFails, clocks, endsOwn, invokes, informs, messages, farEnds, made}
-use Rattle.call.proofs.KeptIncoming.{unheld}
-use Rattle.call.proofs.Kept.{addressed, to-outgoing, act-request}
+use Rattle.call.proofs.Kept.{addressed, to-outgoing, alerts-unheld, act-request}
 
 -- "6: .. CDS Idle": a divert that is taken finds no open request
 pub divert-idle : (c : Call) (e : Event) → T (diverts e) → T (not (stateForbids c e)) → T (not (requested c))
@@ -29,7 +27,8 @@ divert-idle c e d n = let m = rw (eqb→eq (e .kind) 6 d) at n in search (nor-l,
 abbrev pub endsRequest : Event → Bool
 endsRequest e = answersRequest e || clock e || eqb (e .kind) 5 || ends e || eqb (e .kind) 15
 
-module _ (last : ℕ) (c : Call) (e : Event) (h : T (soundCall last c)) (r : T (requested c)) (o : T (only (opens e) (isFree c))) (a : T (addressed c e)) (n : T (not (stateForbids c e))) where
+module _ (last : ℕ) (c : Call) (e : Event) (h : T (soundCall last c)) (r : T (requested c)) (o : T (only (opens e) (isFree c)))
+    (a : T (addressed c e)) (n : T (not (stateForbids c e))) where
   its : Incoming last c
   its = requested-incoming last c h r
 
@@ -44,11 +43,7 @@ module _ (last : ℕ) (c : Call) (e : Event) (h : T (soundCall last c)) (r : T (
   ending (opensOutgoing k f) = absurd (not-free (rw k at o))
   ending (opensIncoming k f) = absurd (not-free (rw k at o))
   ending (opensDiverted k f) = absurd (not-free (rw k at o))
-  ending (alerts k f) =
-      let m = rw k at n in
-      let p : T (not (not (proceeding c))) = search (nor-l, nor-r) depth 8 in
-      let q : T (not (leaving c)) = search (nor-l, nor-r) depth 8 in
-      absurd (T-not (requested c) (nor-l (requested c) (granted c) (unheld its (not-not (proceeding c) p) q)) r)
+  ending (alerts k f) = absurd (T-not (requested c) (nor-l (requested c) (granted c) (alerts-unheld c e k n its)) r)
   ending (answers k f) = rw k tt
   ending (divertsCall k f) = absurd (T-not (requested c) (divert-idle c e (rw k tt) n) r)
   ending (results k f) = rw k tt

@@ -3,7 +3,7 @@ use Prim.Native.Nat.{ℕ, _≤_}
 use native.Mathlib.Omega.{arith}
 use mathlib.Core.Path.{_≡_}
 use mathlib.Core.Bool.{not, _&&_}
-use lib.Dec.{T, leb, eqb, eqb→eq, leb→le, T-not, not-T}
+use lib.Dec.{T, eqb, eqb→eq, leb→le, T-not, not-T}
 use Rattle.ground.proofs.Bools.{and-l, and-r, and-i, by-cases, is-true, from-true}
 use Rattle.call.specs.declared.Call.{Call}
 use Rattle.call.specs.Record.{isFree, isOutgoing, isIncoming, requested, freeCall}
