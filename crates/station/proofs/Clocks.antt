@@ -27,11 +27,11 @@ use Rattle.station.specs.Table.{at, sound, identifierFor, place}
 use Rattle.station.specs.Refusals.{refusalOnSound, refusal}
 use Rattle.station.specs.Step.{Outcome, effectAt, settled, step, Ran, runStep, runOn, run}
 use Rattle.station.specs.Demand1.{codeOf}
-use Rattle.station.specs.Demand2.{NothingDue, LowestDue, Expires, ClockEnds, Passes, ClockPasses, Cleared, SixtyFour}
+use Rattle.station.specs.Demand2.{NothingDue, Lowest, Expires, ClockEnds, Passes, ClockPasses, Cleared, SixtyFour}
 use Rattle.station.proofs.Numbers.{Passed}
 use Rattle.station.proofs.Stepped.{Stepped, refuses, settles, passes, stepped}
 use Rattle.station.proofs.Demand1.{code-refusal, done-passed, done-timed}
-use Rattle.station.proofs.Lowest.{count, lowest-passes, within, lowest-is, lowest-none, count-none, count-length, count-lowest}
+use Rattle.station.proofs.Lowest.{count, lowest-is, lowest-none, count-none, count-length, count-lowest}
 use Rattle.station.proofs.Whole.{whole}
 use Rattle.station.proofs.Kept.{step-sound}
 
@@ -58,9 +58,8 @@ expires i (passes p m) z t l h = absurd (omega arith)
 
 pub clock-ends : ClockEnds
 clock-ends s calls e i t z d =
-    let p = due (e .time) in
-    let l : i < length calls = within p freeCall calls i tt (d .ripe) in
-    expires i (stepped s calls e) z t l (clock-place calls e t ∙ lowest-is p freeCall calls i tt (d .ripe) (d .lower))
+    let h = clock-place calls e t ∙ lowest-is (due (e .time)) freeCall calls i (d .there) (d .passes) (d .lower) in
+    expires i (stepped s calls e) z t (d .there) h
 
 -- with none due nothing changes
 idles : {s : Station} {calls : List Call} {e : Event} {o : Outcome} → Stepped s calls e o → o .answer .code ≡ 0 → length calls ≤ place calls e → Passes calls o

@@ -7,7 +7,7 @@ use mathlib.Core.Bool.{Bool, true, false, not, _||_}
 use mathlib.Core.Option.{some, none}
 use mathlib.Core.List.{List}
 use lib.Dec.{T, eqb, eqb→eq}
-use lib.ListN.{length}
+use lib.ListN.{length, set}
 use lib.Seq.{getD-set-same, getD-set-other}
 use Rattle.ground.specs.Choice.{when_then_else_}
 use Rattle.ground.proofs.Bools.{nor-l, not-not, from-true}
@@ -20,13 +20,14 @@ use Rattle.call.specs.State.{stateForbids}
 use Rattle.call.specs.Incoming.{idle, grant, actIncoming}
 use Rattle.call.specs.Act.{act}
 use Rattle.call.proofs.Denials.{denied}
+use Rattle.call.proofs.Kept.{act-request}
 use Rattle.call.proofs.Requests.{endsRequest, request-ends, request-ended}
 use Rattle.station.specs.declared.Station.{Station}
 use Rattle.station.specs.Table.{at, identifierFor, place}
 use Rattle.station.specs.Refusals.{refusal}
 use Rattle.station.specs.Step.{Outcome, effectAt, step}
 use Rattle.station.specs.Demand1.{codeOf}
-use Rattle.station.specs.Demand2.{Open, Settles, OutcomeSettles, Foreign, ForeignStays, Ending, result, reject, expiry, answered, closed, Ended, EndsOnly, EndsIndeed}
+use Rattle.station.specs.Demand2.{Open, Settles, OutcomeSettles, Foreign, ForeignStays, Begun, BeginsOnly, Ending, result, reject, expiry, answered, closed, Ended, EndsOnly, EndsIndeed}
 use Rattle.station.proofs.Numbers.{Passed}
 use Rattle.station.proofs.Stepped.{Stepped, refuses, settles, passes, stepped}
 use Rattle.station.proofs.Demand1.{code-refusal, refusal-stays}
@@ -145,3 +146,28 @@ indeed {s} {calls} {e} i (passes p l) r h z = let m = within requested freeCall 
 
 pub ends-indeed : EndsIndeed
 ends-indeed s calls e i r x = indeed i (stepped s calls e) r (x .here) (sym (code-refusal s calls e) ∙ x .done)
+
+-- how it begins
+begins : {s : Station} {calls : List Call} {e : Event} {o : Outcome} (i k : ℕ) → Stepped s calls e o → (Open calls i k → ⊥) → Open (o .calls) i k → Begun s calls e i k
+begins i k (refuses n q) f a = absurd (f a)
+begins {s} {calls} {e} i k (settles p l) f a = go (ℕ-discrete i (place calls e))
+  where
+    x : Call
+    x = effectAt s calls e (place calls e) .call
+
+    go : Dec (i ≡ place calls e) → Begun s calls e i k
+    go (yes q) =
+        let c = at calls (place calls e) in
+        let y : at (set calls (place calls e) x) i ≡ x = rw q (getD-set-same calls (place calls e) x freeCall l) in
+        let (u, v) = addressed-there s calls e p in
+        let h = record-sound s calls (p .whole) (place calls e) l in
+        let (d, j) = act-request (s .last) (identifierFor s calls) c e h (p .timely) (p .made) u v (rw y at (a .asked)) in
+        let g : place calls e ≡ e .call = rw (eqb→eq (e .kind) 6 d) in
+        record { done = code-refusal s calls e ∙ p .number; kind = d; here = sym (q ∙ g); drawn = sym (rw y at (a .bears)) ∙ j }
+    go (no n) =
+        let y = getD-set-other calls (place calls e) i x freeCall n in
+        absurd (f (record { asked = rw y at (a .asked); bears = rw y at (a .bears) }))
+begins i k (passes p l) f a = absurd (f a)
+
+pub begins-only : BeginsOnly
+begins-only s calls e i k f a = begins i k (stepped s calls e) f a

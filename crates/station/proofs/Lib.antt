@@ -11,3 +11,4 @@ pub mod Asking
 pub mod Endings
 pub mod Kept
 pub mod Clocks
+pub mod Lists

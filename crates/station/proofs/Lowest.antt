@@ -47,9 +47,8 @@ module _ {A : Type 0} (p : A → Bool) (d : A) where
       omega arith
 
   -- a place where an element passes and none before it does is the lowest
-  pub lowest-is : (l : List A) (i : ℕ) → T (not (p d)) → T (p (getD l i d)) → ((j : ℕ) → j < i → T (not (p (getD l j d)))) → first p l ≡ i
-  lowest-is l i n t f =
-      let w = within l i n t in
+  pub lowest-is : (l : List A) (i : ℕ) → i < length l → T (p (getD l i d)) → ((j : ℕ) → j < i → T (not (p (getD l j d)))) → first p l ≡ i
+  lowest-is l i w t f =
       let a : i < first p l → ⊥ = λ h. T-not (p (getD l i d)) (lowest-lower l i h) t in
       let b : first p l < i → ⊥ = λ h. T-not (p (getD l (first p l) d)) (f (first p l) h) (lowest-passes l (omega arith)) in
       omega arith

@@ -1,21 +1,21 @@
 -- Demand 2 over the table: what the events keep, what a request takes, how it ends, and what a clock event does. The theorems
--- are in proofs/Kept, Requests, Places, Endings and Clocks.
+-- are in proofs/Kept, Lists, Requests, Places, Named, Asking, Endings and Clocks.
 use Prim.Native.Nat.{ℕ, suc, _+_, _≤_, _<_}
 use mathlib.Core.Path.{_≡_}
 use mathlib.Core.Bool.{Bool, not, _||_}
 use mathlib.Core.Logic.{_↔_}
 use mathlib.Core.Option.{Option, none, some}
-use mathlib.Core.List.{List}
+use mathlib.Core.List.{List, _∷_, _++_}
 use lib.Dec.{T, eqb}
-use lib.ListN.{length, set, replicate}
+use lib.ListN.{length, getD, set, replicate}
 use Rattle.ground.specs.Choice.{when_then_else_}
 use Rattle.ground.specs.Lists.{all}
 use Rattle.event.specs.declared.Event.{Event}
-use Rattle.event.specs.Kinds.{answersRequest, diverts, clock, ends}
+use Rattle.event.specs.Kinds.{opens, answersRequest, diverts, clock, ends}
 use Rattle.identifier.specs.Identifier.{after, distinct}
 use Rattle.identifier.specs.Statements.{First}
 use Rattle.call.specs.declared.Call.{Call}
-use Rattle.call.specs.Record.{freeCall, requested, granted}
+use Rattle.call.specs.Record.{freeCall, isFree, requested, granted}
 use Rattle.call.specs.Incoming.{counterSent, due, idle}
 use Rattle.station.specs.declared.Station.{Station}
 use Rattle.station.specs.Station.{limitOk, freshStation, emptyAnswer}
@@ -36,6 +36,18 @@ OutcomesSound =
 abbrev pub RunSound : Type 0
 RunSound =
     (r : Ran) (events : List Event) → T (sound (r .station) (r .calls)) → T (sound (runOn r events .station) (runOn r events .calls))
+
+-- each event of a list acts on what those before it left, and none is passed over
+abbrev pub OutcomesEach : Type 0
+OutcomesEach =
+    (s : Station) (calls : List Call) (before : List Event) (e : Event) (behind : List Event) (d : Outcome)
+    → getD (outcomes s calls (before ++ (e ∷ behind))) (length before) d ≡ step (run s calls before .station) (run s calls before .calls) e
+
+abbrev pub OutcomesLength : Type 0
+OutcomesLength = (s : Station) (calls : List Call) (events : List Event) → length (outcomes s calls events) ≡ length events
+
+abbrev pub RunCounts : Type 0
+RunCounts = (s : Station) (calls : List Call) (events : List Event) → run s calls events .done + run s calls events .refused ≡ length events
 
 -- a fresh station with 1 to 64 free records is sound
 abbrev pub FreshSound : Type 0
@@ -90,6 +102,24 @@ OthersStay = (s : Station) (calls : List Call) (e : Event) (j : ℕ) → (j ≡ 
 abbrev pub LengthStays : Type 0
 LengthStays = (s : Station) (calls : List Call) (e : Event) → length (step s calls e .calls) ≡ length calls
 
+-- the lowest record that passes a test
+pub record Lowest (p : Call → Bool) (calls : List Call) (i : ℕ) : Type 0 where
+  pub there : i < length calls
+  pub passes : T (p (at calls i))
+  pub lower : (j : ℕ) → j < i → T (not (p (at calls j)))
+
+-- "Its answer holds the call": every done event but a clock event has a record to act on, and names it
+pub record Names (calls : List Call) (e : Event) (o : Outcome) : Type 0 where
+  pub there : place calls e < length calls
+  pub call : o .answer .call ≡ place calls e
+
+abbrev pub DoneNames : Type 0
+DoneNames = (s : Station) (calls : List Call) (e : Event) → codeOf s calls e ≡ 0 → T (not (clock e)) → Names calls e (step s calls e)
+
+-- "An open takes the lowest free record."
+abbrev pub OpenTakes : Type 0
+OpenTakes = (s : Station) (calls : List Call) (e : Event) → codeOf s calls e ≡ 0 → T (opens e) → Lowest isFree calls (step s calls e .answer .call)
+
 -- "7: Idle, granted. 8: Idle, not granted.": the request of that call with that identifier ends, and every other record stays
 pub record Settles (before : List Call) (e : Event) (o : Outcome) : Type 0 where
   pub request : Open before (e .call) (e .identifier)
@@ -110,6 +140,18 @@ abbrev pub ForeignStays : Type 0
 ForeignStays =
     (s : Station) (calls : List Call) (e : Event) → T (answersRequest e) → (Open calls (e .call) (e .identifier) → ⊥)
     → Foreign s calls (step s calls e)
+
+-- an open request begins by a done divert of its call only, with the identifier that was drawn
+pub record Begun (s : Station) (calls : List Call) (e : Event) (i identifier : ℕ) : Type 0 where
+  pub done : codeOf s calls e ≡ 0
+  pub kind : T (diverts e)
+  pub here : e .call ≡ i
+  pub drawn : identifier ≡ identifierFor s calls
+
+abbrev pub BeginsOnly : Type 0
+BeginsOnly =
+    (s : Station) (calls : List Call) (e : Event) (i identifier : ℕ) → (Open calls i identifier → ⊥)
+    → Open (step s calls e .calls) i identifier → Begun s calls e i identifier
 
 -- how an open request ends: by its result, by its error or reject, by its expiry, by an answer of the call or by the end of the call
 pub data Ending : Type 0 where
@@ -148,12 +190,8 @@ EndsIndeed =
 abbrev pub NothingDue : ℕ → List Call → Type 0
 NothingDue time calls = (i : ℕ) → T (not (due time (at calls i)))
 
--- the lowest record that is due
-pub record LowestDue (time : ℕ) (calls : List Call) (i : ℕ) : Type 0 where
-  pub ripe : T (due time (at calls i))
-  pub lower : (j : ℕ) → j < i → T (not (due time (at calls j)))
-
--- "the lowest ends as by a reject and the answer names call and identifier"
+-- "of the records Requested with time minus start at least 10,000, the lowest ends as by a reject and the answer names call
+-- and identifier"
 pub record Expires (before : List Call) (i : ℕ) (o : Outcome) : Type 0 where
   pub call : o .answer .call ≡ i
   pub identifier : o .answer .identifier ≡ at before i .identifier
@@ -161,7 +199,7 @@ pub record Expires (before : List Call) (i : ℕ) (o : Outcome) : Type 0 where
 
 abbrev pub ClockEnds : Type 0
 ClockEnds =
-    (s : Station) (calls : List Call) (e : Event) (i : ℕ) → T (clock e) → codeOf s calls e ≡ 0 → LowestDue (e .time) calls i
+    (s : Station) (calls : List Call) (e : Event) (i : ℕ) → T (clock e) → codeOf s calls e ≡ 0 → Lowest (due (e .time)) calls i
     → Expires calls i (step s calls e)
 
 -- "With none due, the answer has no call."
