@@ -1,11 +1,9 @@
 -- The record at the place of an event that is done: its direction is the event's, and the state rules take it. Assumes nothing.
-use Prim.Native.Nat.{ℕ}
 use mathlib.Core.Path.{_≡_, refl}
 use mathlib.Core.Bool.{Bool, true, false, not, _&&_, _||_}
 use mathlib.Core.List.{List}
 use lib.Dec.{T, leb}
 use lib.ListN.{length}
-use Rattle.ground.specs.Choice.{when_then_else_}
 use Rattle.ground.proofs.Bools.{nor-r, from-true}
 use Rattle.event.specs.declared.Event.{Event}
 use Rattle.event.specs.Kinds.{opens, ofIncoming, ofOutgoing, clock, ends}

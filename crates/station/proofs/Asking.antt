@@ -1,12 +1,10 @@
 -- A done divert: the request that it opens, and the identifier and counter that it sends. Assumes nothing.
 use Prim.Native.Nat.{ℕ}
 use mathlib.Core.Path.{_≡_, refl}
-use mathlib.Core.Bool.{Bool, true, false, not}
+use mathlib.Core.Bool.{not}
 use mathlib.Core.List.{List}
-use lib.Dec.{T, eqb, eqb→eq}
-use lib.ListN.{length, set}
+use lib.Dec.{T, eqb→eq}
 use lib.Seq.{getD-set-same}
-use Rattle.ground.specs.Choice.{when_then_else_}
 use Rattle.ground.proofs.Bools.{is-false}
 use Rattle.event.specs.declared.Event.{Event}
 use Rattle.event.specs.Kinds.{diverts}
@@ -16,11 +14,11 @@ use Rattle.call.specs.Incoming.{asking, diverted, actIncoming}
 use Rattle.call.specs.Act.{act}
 use Rattle.station.specs.declared.Station.{Station}
 use Rattle.station.specs.Table.{at, identifierFor}
-use Rattle.station.specs.Step.{Outcome, effectAt, settled, step}
+use Rattle.station.specs.Step.{Outcome, effectAt, step}
 use Rattle.station.specs.Demand1.{codeOf}
 use Rattle.station.specs.Demand2.{Asks, DivertAsks, NextStays}
 use Rattle.station.proofs.Stepped.{Stepped, refuses, settles, passes, stepped}
-use Rattle.station.proofs.Named.{Acts, named-acts}
+use Rattle.station.proofs.Named.{named-acts}
 
 divert-act : (c : Call) (e : Event) (k : ℕ) → e .kind ≡ 6 → act c e k ≡ diverted c e k
 unfolding act actIncoming

@@ -3,13 +3,11 @@ use Prim.Native.Nat.{ℕ, zero, suc, _+_, _-_, _≤_, _<_}
 use native.Mathlib.Nat.{le-refl}
 use native.Mathlib.Omega.{arith}
 use mathlib.Core.Path.{_≡_, refl, sym, _∙_}
-use mathlib.Core.Bool.{Bool, true, false, not}
-use mathlib.Core.List.{List, [], _∷_}
-use lib.Dec.{T, eqb, eqb→eq, leb→le}
+use mathlib.Core.List.{List}
+use lib.Dec.{T, eqb→eq, leb→le}
 use lib.ListN.{length, set, replicate}
 use lib.Seq.{set-out}
 use borrow.Author.Tests.{le-ltb}
-use Rattle.ground.specs.Choice.{when_then_else_}
 use Rattle.ground.specs.Lists.{first}
 use Rattle.ground.proofs.Bools.{is-true}
 use Rattle.event.specs.declared.Event.{Event}
@@ -22,13 +20,11 @@ use Rattle.call.specs.State.{stateForbids}
 use Rattle.call.specs.Incoming.{due, idle, expired}
 use Rattle.call.specs.Act.{act}
 use Rattle.station.specs.declared.Station.{Station}
-use Rattle.station.specs.Station.{emptyAnswer}
 use Rattle.station.specs.Table.{at, sound, identifierFor, place}
 use Rattle.station.specs.Refusals.{refusalOnSound, refusal}
 use Rattle.station.specs.Step.{Outcome, effectAt, settled, step, Ran, runStep, runOn, run}
 use Rattle.station.specs.Demand1.{codeOf}
-use Rattle.station.specs.Demand2.{NothingDue, Lowest, Expires, ClockEnds, Passes, ClockPasses, Cleared, SixtyFour}
-use Rattle.station.proofs.Numbers.{Passed}
+use Rattle.station.specs.Demand2.{Expires, ClockEnds, Passes, ClockPasses, Cleared, SixtyFour}
 use Rattle.station.proofs.Stepped.{Stepped, refuses, settles, passes, stepped}
 use Rattle.station.proofs.Demand1.{code-refusal, done-passed, done-timed}
 use Rattle.station.proofs.Lowest.{count, lowest-is, lowest-none, count-none, count-length, count-lowest}

@@ -1,15 +1,16 @@
 -- Demand 1. Assumes nothing.
-use Prim.Native.Nat.{ℕ, zero, suc}
 use native.Mathlib.Omega.{arith}
 use mathlib.Core.Path.{_≡_, refl, sym, _∙_}
 use mathlib.Core.List.{List}
+use Rattle.ground.proofs.Bools.{is-true}
 use Rattle.event.specs.declared.Event.{Event}
 use Rattle.call.specs.declared.Call.{Call}
 use Rattle.station.specs.declared.Station.{Station}
+use Rattle.station.specs.Table.{sound}
 use Rattle.station.specs.Refusals.{refusal}
-use Rattle.station.specs.Step.{Outcome, step}
-use Rattle.station.specs.Demand1.{conditions, Given, codeOf, NumberExact, Refusal, RefusalStays, Timed, DoneTimed}
-use Rattle.station.proofs.Numbers.{numbered, given, given-once, refusal-numbered, Passed, passed}
+use Rattle.station.specs.Step.{Outcome, step, stepOnSound}
+use Rattle.station.specs.Demand1.{conditions, Given, codeOf, NumberExact, Refusal, RefusalStays, Timed, DoneTimed, OnSound}
+use Rattle.station.proofs.Numbers.{given, given-once, refusal-numbered, Passed, passed}
 use Rattle.station.proofs.Stepped.{Stepped, refuses, settles, passes, stepped}
 
 -- the number of an answer is that of the page's cascade
@@ -47,3 +48,7 @@ timed-of (passes p l) z = record { last = refl; limit = refl }
 
 pub done-timed : DoneTimed
 done-timed s calls e z = timed-of (stepped s calls e) z
+
+pub on-sound : OnSound
+unfolding step stepOnSound refusal
+on-sound s calls e h = rw (is-true (sound s calls) h)

@@ -27,7 +27,7 @@ use Rattle.station.specs.Table.{at, identifierFor, place}
 use Rattle.station.specs.Refusals.{refusal}
 use Rattle.station.specs.Step.{Outcome, effectAt, step}
 use Rattle.station.specs.Demand1.{codeOf}
-use Rattle.station.specs.Demand2.{Open, Settles, OutcomeSettles, Foreign, ForeignStays, Begun, BeginsOnly, Ending, result, reject, expiry, answered, closed, Ended, EndsOnly, EndsIndeed}
+use Rattle.station.specs.Demand2.{Open, Settles, OutcomeSettles, ForeignStays, Begun, BeginsOnly, Ending, result, reject, expiry, answered, closed, Ended, EndsOnly, EndsIndeed}
 use Rattle.station.proofs.Numbers.{Passed}
 use Rattle.station.proofs.Stepped.{Stepped, refuses, settles, passes, stepped}
 use Rattle.station.proofs.Demand1.{code-refusal, refusal-stays}

@@ -1,12 +1,10 @@
 -- "Each done event leaves a sound table." Assumes nothing.
-use Prim.Native.Nat.{ℕ, zero, suc, _≤_, _<_}
-use native.Mathlib.Omega.{arith}
-use mathlib.Core.Path.{_≡_, refl, sym}
-use mathlib.Core.Bool.{Bool, true, false, not, _&&_}
+use Prim.Native.Nat.{ℕ, zero, suc, _<_}
+use mathlib.Core.Path.{_≡_, refl}
+use mathlib.Core.Bool.{Bool, true}
 use mathlib.Core.List.{List, [], _∷_}
-use lib.Dec.{T, leb, leb→le, le→leb}
+use lib.Dec.{T, le→leb}
 use lib.ListN.{length, set, length-set, replicate, length-replicate}
-use Rattle.ground.specs.Choice.{when_then_else_}
 use Rattle.ground.specs.Lists.{all}
 use Rattle.ground.proofs.Bools.{and-l, and-r, and-i, is-true, from-true}
 use Rattle.ground.proofs.Walks.{all-set}
@@ -18,9 +16,9 @@ use Rattle.call.specs.Soundness.{soundCall}
 use Rattle.call.specs.Act.{act}
 use Rattle.call.proofs.Kept.{sound-later, act-kept, act-request}
 use Rattle.station.specs.declared.Station.{Station}
-use Rattle.station.specs.Station.{limitOk, freshStation}
+use Rattle.station.specs.Station.{freshStation}
 use Rattle.station.specs.Table.{at, requestsOf, sound, identifierFor, place}
-use Rattle.station.specs.Step.{Outcome, stationAfter, effectAt, settled, noneDue, step, outcomes, Ran, runStep, runOn}
+use Rattle.station.specs.Step.{Outcome, stationAfter, effectAt, step, outcomes, runStep, runOn}
 use Rattle.station.specs.Demand2.{StepSound, OutcomesSound, RunSound, FreshSound}
 use Rattle.station.proofs.Numbers.{Passed}
 use Rattle.station.proofs.Stepped.{Stepped, refuses, settles, passes, stepped}

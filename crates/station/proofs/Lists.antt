@@ -1,17 +1,14 @@
 -- A list of events: each acts on what those before it left. Assumes nothing.
-use Prim.Native.Nat.{ℕ, suc, _+_}
+use Prim.Native.Nat.{suc, _+_}
 use native.Mathlib.Omega.{arith}
-use mathlib.Core.Path.{_≡_, refl, ap, _∙_}
-use mathlib.Core.Bool.{Bool, true, false}
+use mathlib.Core.Path.{_≡_, refl, ap}
+use mathlib.Core.Bool.{true, false}
 use mathlib.Core.List.{List, [], _∷_, _++_}
 use lib.Dec.{eqb}
 use lib.ListN.{length, getD}
 use Rattle.ground.specs.Choice.{when_then_else_}
 use Rattle.event.specs.declared.Event.{Event}
-use Rattle.call.specs.declared.Call.{Call}
-use Rattle.station.specs.declared.Station.{Station}
-use Rattle.station.specs.Step.{Outcome, step, outcomes, Ran, counted, runStep, runOn, run}
-use Rattle.station.specs.Demand1.{codeOf}
+use Rattle.station.specs.Step.{Outcome, step, outcomes, Ran, counted, runStep, runOn}
 use Rattle.station.specs.Demand2.{OutcomesEach, OutcomesLength, RunCounts}
 
 -- whatever was counted before

@@ -1,12 +1,11 @@
 -- The record that a done event acts on: that of the call it names, or the lowest free one. Assumes nothing.
-use Prim.Native.Nat.{ℕ, _≤_, _<_}
+use Prim.Native.Nat.{ℕ, _<_}
 use native.Mathlib.Omega.{arith}
 use mathlib.Core.Path.{_≡_, refl}
 use mathlib.Core.Bool.{Bool, true, false, not, _&&_, _||_}
 use mathlib.Core.List.{List}
 use lib.Dec.{T, leb, nleb→lt, not-T, T-not}
 use lib.ListN.{length}
-use Rattle.ground.specs.Choice.{when_then_else_}
 use Rattle.ground.specs.Lists.{first}
 use Rattle.ground.proofs.Bools.{and-i, nor-l, is-true, is-false, from-true}
 use Rattle.event.specs.declared.Event.{Event}

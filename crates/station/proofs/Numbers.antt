@@ -5,7 +5,7 @@ use native.Mathlib.Omega.{arith}
 use mathlib.Core.Path.{_≡_, refl, sym}
 use mathlib.Core.Bool.{Bool, true, false, not}
 use mathlib.Core.List.{List, [], _∷_}
-use lib.Dec.{T, T-not, ltb, nltb→le}
+use lib.Dec.{T, T-not, nltb→le}
 use lib.ListN.{getD}
 use Rattle.ground.specs.Choice.{when_then_else_}
 use Rattle.ground.proofs.Bools.{not-not}

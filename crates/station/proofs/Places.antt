@@ -9,7 +9,7 @@ use Rattle.call.specs.declared.Call.{Call}
 use Rattle.call.specs.Record.{freeCall}
 use Rattle.station.specs.declared.Station.{Station}
 use Rattle.station.specs.Table.{at, place}
-use Rattle.station.specs.Step.{Outcome, effectAt, step}
+use Rattle.station.specs.Step.{Outcome, effectAt}
 use Rattle.station.specs.Demand2.{OthersStay, LengthStays}
 use Rattle.station.proofs.Stepped.{Stepped, refuses, settles, passes, stepped}
 

@@ -1,7 +1,7 @@
 -- The open requests of a table by their places, and the identifier that the next one takes. Assumes nothing.
 use Prim.Native.Nat.{ℕ, zero, suc, _≤_, _<_, zero-le, suc-le-suc}
 use native.Mathlib.Omega.{arith}
-use mathlib.Core.Path.{_≡_, refl, ap, sym, _∙_}
+use mathlib.Core.Path.{_≡_, refl, ap, sym}
 use mathlib.Core.Bool.{Bool, true, false, _||_}
 use mathlib.Core.List.{List, [], _∷_, _++_}
 use lib.Dec.{T, eqb, eqb→eq, leb→le}
@@ -10,17 +10,15 @@ use Rattle.ground.specs.Choice.{when_then_else_}
 use Rattle.ground.specs.Lists.{any}
 use Rattle.ground.proofs.Bools.{or-inl, or-inr, or-left, eq→eqb, is-true, from-true, when-has}
 use Rattle.identifier.specs.Identifier.{taken, distinct}
-use Rattle.identifier.specs.Statements.{First}
 use Rattle.identifier.proofs.Pigeon.{crowded}
 use Rattle.identifier.proofs.Draw as draw
 use Rattle.identifier.proofs.Gathered.{distinct-set}
 use Rattle.identifier.proofs.Reading.{head-apart, tail-distinct, distinct-cons}
 use Rattle.call.specs.declared.Call.{Call}
 use Rattle.call.specs.Record.{freeCall, requested}
-use Rattle.station.specs.declared.Station.{Station}
-use Rattle.station.specs.Table.{at, requestsOf, openIdentifiers, sound, identifierFor}
-use Rattle.station.specs.Demand2.{Open, Apart, DistinctReads, SoundApart, Drawn, SoundDraws}
-use Rattle.station.proofs.Whole.{Whole, whole}
+use Rattle.station.specs.Table.{at, requestsOf, openIdentifiers, identifierFor}
+use Rattle.station.specs.Demand2.{Open, Apart, DistinctReads, SoundApart, SoundDraws}
+use Rattle.station.proofs.Whole.{whole}
 
 -- a place of the rest is the next place of the whole
 up : {c : Call} {rest : List Call} {i k : ℕ} → Open rest i k → Open (c ∷ rest) (suc i) k
@@ -138,4 +136,4 @@ sound-draws s calls h =
     let few : length held ≤ 64 = omega (arith, requests-length calls, leb→le (length calls) 64 (whole s calls h .few)) in
     let f = draw.first held (s .next) few in
     let n : 65 ≤ f .steps → ⊥ = λ l. let c = crowded 65 (s .next) held (omega arith) (λ i g. f .before i (omega arith)) in omega arith in
-    record { first = f; near = omega arith; free = λ i o. f .free (taken-at calls i (identifierFor s calls) o) }
+    record { first = f; near = omega arith; free = λ i o. f .free (taken-at calls i (identifierFor s calls) o); only = λ k g. draw.only held (s .next) k few g }

@@ -1,6 +1,5 @@
 -- A sound table by its parts. Assumes nothing.
 use Prim.Native.Nat.{ℕ, _<_}
-use mathlib.Core.Bool.{Bool, _&&_}
 use mathlib.Core.List.{List}
 use lib.Dec.{T, leb}
 use lib.ListN.{length}

@@ -12,9 +12,9 @@ use Rattle.event.specs.declared.Event.{Event}
 use Rattle.call.specs.declared.Call.{Call}
 use Rattle.station.specs.declared.Station.{Station}
 use Rattle.station.specs.Station.{emptyAnswer}
-use Rattle.station.specs.Table.{at}
+use Rattle.station.specs.Table.{at, sound}
 use Rattle.station.specs.Refusals.{notSound, early, illMade, noSuchCall, notTaken, otherIdentifier, overLimit, noFreeRecord}
-use Rattle.station.specs.Step.{Outcome, step}
+use Rattle.station.specs.Step.{Outcome, step, stepOnSound}
 
 -- "tested in this order": the conditions of the numbers 1 to 8
 abbrev pub conditions : Station → List Call → Event → List Bool
@@ -58,3 +58,7 @@ pub record Timed (s : Station) (e : Event) (o : Outcome) : Type 0 where
 
 abbrev pub DoneTimed : Type 0
 DoneTimed = (s : Station) (calls : List Call) (e : Event) → codeOf s calls e ≡ 0 → Timed s e (step s calls e)
+
+-- where the table was found sound, the test for it need not be made again
+abbrev pub OnSound : Type 0
+OnSound = (s : Station) (calls : List Call) (e : Event) → T (sound s calls) → stepOnSound s calls e ≡ step s calls e

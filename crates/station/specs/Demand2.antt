@@ -1,6 +1,6 @@
 -- Demand 2 over the table: what the events keep, what a request takes, how it ends, and what a clock event does. The theorems
 -- are in proofs/Kept, Lists, Requests, Places, Named, Asking, Endings and Clocks.
-use Prim.Native.Nat.{ℕ, suc, _+_, _≤_, _<_}
+use Prim.Native.Nat.{ℕ, _+_, _≤_, _<_}
 use mathlib.Core.Path.{_≡_}
 use mathlib.Core.Bool.{Bool, not, _||_}
 use mathlib.Core.Logic.{_↔_}
@@ -68,11 +68,13 @@ DistinctReads = (s : Station) (calls : List Call) → T (distinct (openIdentifie
 abbrev pub SoundApart : Type 0
 SoundApart = (s : Station) (calls : List Call) → T (sound s calls) → Apart calls
 
--- "takes the first identifier from the next one on that no open request has": one of 65 candidates
+-- "takes the first identifier from the next one on that no open request has": one of 65 candidates,
+-- and no other is so
 pub record Drawn (s : Station) (calls : List Call) (identifier : ℕ) : Type 0 where
   pub first : First (openIdentifiers s calls) (s .next) identifier
   pub near : first .steps < 65
   pub free : (i : ℕ) → Open calls i identifier → ⊥
+  pub only : (other : ℕ) → First (openIdentifiers s calls) (s .next) other → other ≡ identifier
 
 abbrev pub SoundDraws : Type 0
 SoundDraws = (s : Station) (calls : List Call) → T (sound s calls) → Drawn s calls (identifierFor s calls)
