@@ -4,20 +4,21 @@ use native.Mathlib.Decide.{ℕ-discrete}
 use native.Mathlib.Omega.{arith}
 use mathlib.Core.Path.{_≡_, refl, sym, _∙_}
 use mathlib.Core.Bool.{Bool, true, false, not, _||_}
+use mathlib.Core.Logic.{_↔_}
 use mathlib.Core.Option.{some, none}
 use mathlib.Core.List.{List}
 use lib.Dec.{T, eqb, eqb→eq}
 use lib.ListN.{length, set}
 use lib.Seq.{getD-set-same, getD-set-other}
+use borrow.Author.Tests.{eqb-true}
 use Rattle.ground.specs.Choice.{when_then_else_}
-use Rattle.ground.proofs.Bools.{nor-l, not-not, from-true}
 use Rattle.event.specs.declared.Event.{Event}
 use Rattle.event.specs.Kinds.{opens, answersRequest, clock, ends}
 use Rattle.call.specs.declared.Call.{Call}
 use Rattle.call.specs.Record.{freeCall, isFree, requested, granted}
 use Rattle.call.specs.Soundness.{only as onlyWith}
 use Rattle.call.specs.State.{stateForbids}
-use Rattle.call.specs.Incoming.{idle, grant, actIncoming}
+use Rattle.call.specs.Incoming.{actIncoming}
 use Rattle.call.specs.Act.{act}
 use Rattle.call.proofs.Denials.{denied}
 use Rattle.call.proofs.Kept.{act-request}
@@ -27,7 +28,7 @@ use Rattle.station.specs.Table.{at, identifierFor, place}
 use Rattle.station.specs.Refusals.{refusal}
 use Rattle.station.specs.Step.{Outcome, effectAt, step}
 use Rattle.station.specs.Demand1.{codeOf}
-use Rattle.station.specs.Demand2.{Open, Settles, OutcomeSettles, ForeignStays, Begun, BeginsOnly, Ending, result, reject, expiry, answered, closed, Ended, EndsOnly, EndsIndeed}
+use Rattle.station.specs.Demand2.{Open, OutcomeSettles, ForeignStays, Begun, BeginsOnly, Ending, result, reject, expiry, answered, closed, Ended, EndsOnly, EndsIndeed}
 use Rattle.station.proofs.Numbers.{Passed}
 use Rattle.station.proofs.Stepped.{Stepped, refuses, settles, passes, stepped}
 use Rattle.station.proofs.Demand1.{code-refusal, refusal-stays}
@@ -35,47 +36,40 @@ use Rattle.station.proofs.Whole.{record-sound}
 use Rattle.station.proofs.Places.{others-stay}
 use Rattle.station.proofs.Lowest.{lowest-passes, within}
 use Rattle.station.proofs.Addressed.{addressed-there}
-use Rattle.station.proofs.Named.{Acts, named-acts}
+use Rattle.station.proofs.Named.{named-acts}
 
--- either way the event is done on the record of its call, whose request it ends
-settle : (s : Station) (calls : List Call) (e : Event) (x : Call) → T (answersRequest e) → place calls e ≡ e .call → Acts s calls e (step s calls e)
-    → T (requested (at calls (e .call))) → act (at calls (e .call)) e (identifierFor s calls) .call ≡ x → T (not (requested x)) → granted x ≡ eqb (e .kind) 7
-    → Settles calls e (step s calls e)
-settle s calls e x t h a r q n g =
+-- "7, 8 callRerouting result; error or reject"
+either : (e : Event) {P : Type 0} → T (answersRequest e) → (e .kind ≡ 7 → P) → (e .kind ≡ 8 → P) → P
+either e {P} t f g = go (eqb (e .kind) 7) refl t
+  where
+    go : (b : Bool) → eqb (e .kind) 7 ≡ b → T (b || eqb (e .kind) 8) → P
+    go true q h = f (eqb-true (e .kind) 7 q)
+    go false q h = g (eqb→eq (e .kind) 8 h)
+
+-- "Both need Requested."
+needed : (b : Bool) → T (not (not b || false)) → T b
+needed true t = tt
+needed false t = t
+
+pub outcome-settles : OutcomeSettles
+unfolding stateForbids act actIncoming
+outcome-settles s calls e t z =
     let c = at calls (e .call) in
-    let i : T (eqb (e .identifier) (c .identifier)) = denied (answersRequest e) (eqb (e .identifier) (c .identifier)) (a .passed .identified) t in
-    let y : at (step s calls e .calls) (e .call) ≡ x = rw (a .leaves, q) (getD-set-same calls (e .call) x freeCall (a .there)) in
+    let x = act c e (identifierFor s calls) .call in
+    let h : place calls e ≡ e .call = either e t (λ k. rw k) (λ k. rw k) in
+    let a = named-acts s calls e (either e t (λ k. rw k tt) (λ k. rw k tt)) h z in
+    let p = a .passed in
+    let r : T (requested c) = either e t (λ k. needed (requested c) (rw k at (p .taken))) (λ k. needed (requested c) (rw k at (p .taken))) in
+    let i : T (eqb (e .identifier) (c .identifier)) = denied (answersRequest e) (eqb (e .identifier) (c .identifier)) (p .identified) t in
+    let y : at (step s calls e .calls) (e .call) ≡ x = rw (a .leaves) (getD-set-same calls (e .call) x freeCall (a .there)) in
+    let n : T (not (requested x)) = either e t (λ k. rw k tt) (λ k. rw k tt) in
+    let g : granted x ≡ eqb (e .kind) 7 = either e t (λ k. rw k) (λ k. rw k) in
     record {
       request = record { asked = r; bears = sym (eqb→eq (e .identifier) (c .identifier) i) };
       over = rw y n;
       grants = rw y g;
       others = λ j d. others-stay s calls e j (λ u. d (u ∙ h));
     }
-
-result-settles : (s : Station) (calls : List Call) (e : Event) → e .kind ≡ 7 → codeOf s calls e ≡ 0 → Settles calls e (step s calls e)
-unfolding stateForbids act actIncoming
-result-settles s calls e k z =
-    let c = at calls (e .call) in
-    let a = named-acts s calls e (rw k tt) (rw k) z in
-    let m = rw k at (a .passed .taken) in
-    let r : T (not (not (requested c))) = search nor-l in
-    settle s calls e (grant c) (rw k tt) (rw k) a (not-not (requested c) r) (rw k) tt (rw k)
-
-reject-settles : (s : Station) (calls : List Call) (e : Event) → e .kind ≡ 8 → codeOf s calls e ≡ 0 → Settles calls e (step s calls e)
-unfolding stateForbids act actIncoming
-reject-settles s calls e k z =
-    let c = at calls (e .call) in
-    let a = named-acts s calls e (rw k tt) (rw k) z in
-    let m = rw k at (a .passed .taken) in
-    let r : T (not (not (requested c))) = search nor-l in
-    settle s calls e (idle c) (rw k tt) (rw k) a (not-not (requested c) r) (rw k) tt (rw k)
-
-pub outcome-settles : OutcomeSettles
-outcome-settles s calls e t z = go (eqb (e .kind) 7) refl t
-  where
-    go : (b : Bool) → eqb (e .kind) 7 ≡ b → T (b || eqb (e .kind) 8) → Settles calls e (step s calls e)
-    go true q h = result-settles s calls e (eqb→eq (e .kind) 7 (from-true (eqb (e .kind) 7) q)) z
-    go false q h = reject-settles s calls e (eqb→eq (e .kind) 8 h) z
 
 pub foreign-stays : ForeignStays
 foreign-stays s calls e t n =
@@ -118,6 +112,12 @@ way-of false false false false true g t = (closed, refl)
 way-of false false false false false true t = (closed, refl)
 way-of false false false false false false t = absurd t
 
+-- a request at another place than that of a store
+elsewhere : (calls : List Call) (i j k : ℕ) (x : Call) → (j ≡ i → ⊥) → Open calls j k ↔ Open (set calls i x) j k
+elsewhere calls i j k x n =
+    let y = getD-set-other calls i j x freeCall n in
+    (λ a. record { asked = rw y (a .asked); bears = rw y (a .bears) }, λ a. record { asked = rw y at (a .asked); bears = rw y at (a .bears) })
+
 only : {s : Station} {calls : List Call} {e : Event} {o : Outcome} (i k : ℕ) → Stepped s calls e o → Open calls i k → (Open (o .calls) i k → ⊥) → Ended s calls e i
 only i k (refuses n q) a f = absurd (f a)
 only {s} {calls} {e} i k (settles p l) a f = go (ℕ-discrete i (place calls e))
@@ -127,9 +127,7 @@ only {s} {calls} {e} i k (settles p l) a f = go (ℕ-discrete i (place calls e))
         let x = ends-there s calls e p l (rw (← q) (a .asked)) in
         let (w, k) = way-of (eqb (e .kind) 7) (eqb (e .kind) 8) (clock e) (eqb (e .kind) 5) (ends e) (eqb (e .kind) 15) (x .kind) in
         record { done = code-refusal s calls e ∙ p .number; here = sym q; way = w; kind = k }
-    go (no n) =
-        let y = getD-set-other calls (place calls e) i (effectAt s calls e (place calls e) .call) freeCall n in
-        absurd (f (record { asked = rw y (a .asked); bears = rw y (a .bears) }))
+    go (no n) = absurd (f (elsewhere calls (place calls e) i k (effectAt s calls e (place calls e) .call) n .0 a))
 only i k (passes p l) a f = absurd (f a)
 
 pub ends-only : EndsOnly
@@ -164,9 +162,7 @@ begins {s} {calls} {e} i k (settles p l) f a = go (ℕ-discrete i (place calls e
         let (d, j) = act-request (s .last) (identifierFor s calls) c e h (p .timely) (p .made) u v (rw y at (a .asked)) in
         let g : place calls e ≡ e .call = rw (eqb→eq (e .kind) 6 d) in
         record { done = code-refusal s calls e ∙ p .number; kind = d; here = sym (q ∙ g); drawn = sym (rw y at (a .bears)) ∙ j }
-    go (no n) =
-        let y = getD-set-other calls (place calls e) i x freeCall n in
-        absurd (f (record { asked = rw y at (a .asked); bears = rw y at (a .bears) }))
+    go (no n) = absurd (f (elsewhere calls (place calls e) i k x n .1 a))
 begins i k (passes p l) f a = absurd (f a)
 
 pub begins-only : BeginsOnly
