@@ -2,3 +2,5 @@ pub mod Station
 pub mod Table
 pub mod Refusals
 pub mod Step
+pub mod Demand1
+pub mod Demand2

@@ -1,0 +1,109 @@
+-- "Each done event leaves a sound table." Assumes nothing.
+use Prim.Native.Nat.{ℕ, zero, suc, _<_}
+use mathlib.Core.Path.{_≡_, refl}
+use mathlib.Core.Bool.{Bool, true}
+use mathlib.Core.List.{List, [], _∷_}
+use lib.Dec.{T, le→leb}
+use lib.ListN.{length, set, length-set, replicate, length-replicate}
+use Rattle.ground.specs.Lists.{all}
+use Rattle.ground.proofs.Bools.{and-l, and-r, and-i, is-true, from-true}
+use Rattle.ground.proofs.Walks.{all-set}
+use Rattle.event.specs.declared.Event.{Event}
+use Rattle.identifier.specs.Identifier.{taken, distinct}
+use Rattle.call.specs.declared.Call.{Call}
+use Rattle.call.specs.Record.{freeCall, requested}
+use Rattle.call.specs.Soundness.{soundCall}
+use Rattle.call.specs.Act.{act}
+use Rattle.call.proofs.Kept.{sound-later, act-kept, act-request}
+use Rattle.station.specs.declared.Station.{Station}
+use Rattle.station.specs.Station.{freshStation}
+use Rattle.station.specs.Table.{at, requestsOf, sound, identifierFor, place}
+use Rattle.station.specs.Step.{Outcome, stationAfter, effectAt, step, outcomes, runStep, runOn}
+use Rattle.station.specs.Demand2.{StepSound, OutcomesSound, RunSound, FreshSound}
+use Rattle.station.proofs.Numbers.{Passed}
+use Rattle.station.proofs.Stepped.{Stepped, refuses, settles, passes, stepped}
+use Rattle.station.proofs.Whole.{Whole, whole, sound-of, record-sound}
+use Rattle.station.proofs.Requests.{requests-set, sound-draws}
+use Rattle.station.proofs.Addressed.{addressed-there}
+
+-- what each element of a list keeps
+all-later : {A : Type 0} (p q : A → Bool) → ((x : A) → T (p x) → T (q x)) → (l : List A) → T (all p l) → T (all q l)
+unfolding all
+all-later p q f [] h = h
+all-later p q f (x ∷ xs) h = and-i (q x) (all q xs) (f x (and-l (p x) (all p xs) h)) (all-later p q f xs (and-r (p x) (all p xs) h))
+
+module _ (s : Station) (calls : List Call) (e : Event) (p : Passed s calls e) where
+  w : Whole s calls
+  w = whole s calls (p .whole)
+
+  -- a later last time
+  records-later : T (all (soundCall (e .time)) calls)
+  records-later = all-later (soundCall (s .last)) (soundCall (e .time)) (λ c h. sound-later (s .last) (e .time) c (p .timely) h) calls (w .records)
+
+  passes-sound : T (sound (stationAfter s calls e) calls)
+  passes-sound =
+      sound-of (stationAfter s calls e) calls
+      (record { some = w .some; few = w .few; limit = w .limit; records = records-later; apart = w .apart })
+
+  settles-sound : place calls e < length calls
+      → T (sound (stationAfter s calls e) (set calls (place calls e) (effectAt s calls e (place calls e) .call)))
+  settles-sound l =
+      let i = place calls e in
+      let c = at calls i in
+      let k = identifierFor s calls in
+      let x = act c e k .call in
+      let (a, b) = addressed-there s calls e p in
+      let h = record-sound s calls (p .whole) i l in
+      let g : T (soundCall (e .time) x) = act-kept (s .last) k c e h (p .timely) (p .made) a b in
+      let r : all (soundCall (e .time)) (set calls i x) ≡ true =
+      all-set (soundCall (e .time)) calls i x (is-true (all (soundCall (e .time)) calls) records-later) (is-true (soundCall (e .time) x) g) in
+      let n = length-set calls i x in
+      let f : T (requested x) → T (taken (requestsOf calls) (x .identifier)) → ⊥ = λ t u.
+      sound-draws s calls (p .whole) .first .free (rw (act-request (s .last) k c e h (p .timely) (p .made) a b t .1) at u) in
+      sound-of (stationAfter s calls e) (set calls i x)
+      (record {
+        some = rw n (w .some);
+        few = rw n (w .few);
+        limit = w .limit;
+        records = from-true (all (soundCall (e .time)) (set calls i x)) r;
+        apart = requests-set calls i x l (w .apart) f;
+      })
+
+sound-after : {s : Station} {calls : List Call} {e : Event} {o : Outcome} → Stepped s calls e o → T (sound s calls) → T (sound (o .station) (o .calls))
+sound-after (refuses n q) h = h
+sound-after {s} {calls} {e} (settles p l) h = settles-sound s calls e p l
+sound-after {s} {calls} {e} (passes p l) h = passes-sound s calls e p
+
+pub step-sound : StepSound
+step-sound s calls e h = sound-after (stepped s calls e) h
+
+pub outcomes-sound : OutcomesSound
+unfolding outcomes all
+outcomes-sound s calls [] h = tt
+outcomes-sound s calls (e ∷ rest) h =
+    let o = step s calls e in
+    let g = step-sound s calls e h in
+    and-i (sound (o .station) (o .calls)) (all (λ o. sound (o .station) (o .calls)) (outcomes (o .station) (o .calls) rest)) g
+    (outcomes-sound (o .station) (o .calls) rest g)
+
+pub run-sound : RunSound
+unfolding runOn
+run-sound r [] h = h
+run-sound r (e ∷ rest) h = run-sound (runStep r e) rest (step-sound (r .station) (r .calls) e h)
+
+all-free : (n last : ℕ) → T (all (soundCall last) (replicate n freeCall))
+unfolding all soundCall
+all-free zero last = tt
+all-free (suc n) last = all-free n last
+
+none-asked : (n : ℕ) → requestsOf (replicate n freeCall) ≡ []
+unfolding requestsOf
+none-asked zero = refl
+none-asked (suc n) = none-asked n
+
+pub fresh-sound : FreshSound
+unfolding distinct
+fresh-sound limit n h a b =
+    let l = length-replicate n freeCall in
+    sound-of (freshStation limit) (replicate n freeCall)
+    (record { some = rw l (le→leb 1 n a); few = rw l (le→leb n 64 b); limit = h; records = all-free n 0; apart = rw (none-asked n) tt })

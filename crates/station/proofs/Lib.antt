@@ -1,0 +1,14 @@
+pub mod Numbers
+pub mod Stepped
+pub mod Demand1
+pub mod Whole
+pub mod Requests
+pub mod Places
+pub mod Lowest
+pub mod Addressed
+pub mod Named
+pub mod Asking
+pub mod Endings
+pub mod Kept
+pub mod Clocks
+pub mod Lists

@@ -1,0 +1,43 @@
+-- A list of events: each acts on what those before it left. Assumes nothing.
+use Prim.Native.Nat.{suc, _+_}
+use native.Mathlib.Omega.{arith}
+use mathlib.Core.Path.{_≡_, refl, ap}
+use mathlib.Core.Bool.{true, false}
+use mathlib.Core.List.{List, [], _∷_, _++_}
+use lib.Dec.{eqb}
+use lib.ListN.{length, getD}
+use Rattle.ground.specs.Choice.{when_then_else_}
+use Rattle.event.specs.declared.Event.{Event}
+use Rattle.station.specs.Step.{Outcome, step, outcomes, Ran, counted, runStep, runOn}
+use Rattle.station.specs.Demand2.{OutcomesEach, OutcomesLength, RunCounts}
+
+-- whatever was counted before
+each : (r : Ran) (before : List Event) (e : Event) (behind : List Event) (d : Outcome)
+    → getD (outcomes (r .station) (r .calls) (before ++ (e ∷ behind))) (length before) d ≡ step (runOn r before .station) (runOn r before .calls) e
+unfolding outcomes runOn
+each r [] e behind d = refl
+each r (x ∷ before) e behind d = each (runStep r x) before e behind d
+
+pub outcomes-each : OutcomesEach
+outcomes-each s calls before e behind d = each (record { done = 0; refused = 0; station = s; calls = calls }) before e behind d
+
+pub outcomes-length : OutcomesLength
+unfolding outcomes
+outcomes-length s calls [] = refl
+outcomes-length s calls (e ∷ rest) = ap suc (outcomes-length (step s calls e .station) (step s calls e .calls) rest)
+
+counted-one : (r : Ran) (o : Outcome) → counted r o .done + counted r o .refused ≡ r .done + r .refused + 1
+counted-one r o =
+    elim (eqb (o .answer .code) 0) as (λ b. (when b then r .done + 1 else r .done) + (when b then r .refused else r .refused + 1) ≡ r .done + r .refused + 1)
+    [ true ↦ omega arith | false ↦ omega arith ]
+
+counts : (r : Ran) (events : List Event) → runOn r events .done + runOn r events .refused ≡ r .done + r .refused + length events
+unfolding runOn
+counts r [] = omega arith
+counts r (e ∷ rest) =
+    let a = counts (runStep r e) rest in
+    let b = counted-one r (step (r .station) (r .calls) e) in
+    omega arith
+
+pub run-counts : RunCounts
+run-counts s calls events = let a = counts (record { done = 0; refused = 0; station = s; calls = calls }) events in omega arith
