@@ -70,10 +70,10 @@ back-refused b code = rw (take-append-drop (b .len) (b .calls))
 
 pub back-none : (b : Board) (e : Event) → e .kind ≡ 10
     → record { answer = emptyAnswer 0; board = record { station = record { last = e .time; next = b .station .next; limit = b .station .limit }; len = b .len; calls = b .calls } }
-        ≡ putBack b (noneDue (b .station) (lent b) e)
+    ≡ putBack b (noneDue (b .station) (lent b) e)
 back-none b e k = rw (take-append-drop (b .len) (b .calls), k)
 
 pub back-settled : (b : Board) (e : Event) (i next : ℕ) (x : Effect) → i < b .len → next ≡ nextAfter (b .station) (lent b) e
     → record { answer = answerOf i x; board = record { station = record { last = e .time; next = next; limit = b .station .limit }; len = b .len; calls = set (b .calls) i (x .call) } }
-        ≡ putBack b (settled (b .station) (lent b) e i x)
+    ≡ putBack b (settled (b .station) (lent b) e i x)
 back-settled b e i next x h q = rw (set-beginning (b .len) (b .calls) i (x .call) h, q)

@@ -49,7 +49,7 @@ apart-distinct (c ∷ cs) = go (requested c) (apart-distinct cs)
   where
     go : (b : Bool) → apartIn (map heldBy cs) ≡ distinct (requestsOf cs)
         → (eqb (when b then c .identifier + 1 else 0) 0 || not (any (eqb (when b then c .identifier + 1 else 0)) (map heldBy cs))) && apartIn (map heldBy cs)
-            ≡ distinct (when b then c .identifier ∷ requestsOf cs else requestsOf cs)
+        ≡ distinct (when b then c .identifier ∷ requestsOf cs else requestsOf cs)
     go true h = rw (ne-eqb (c .identifier + 1) 0 (λ q. omega arith), held-taken cs (c .identifier), h)
     go false h = h
 

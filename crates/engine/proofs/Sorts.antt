@@ -24,9 +24,23 @@ module _ (e : Event) where
   too-far : 15 < e .kind → wellMade e ≡ false
   unfolding wellMade
   too-far h =
-      simp (ne-eqb (e .kind) 1 (λ q. omega arith), ne-eqb (e .kind) 2 (λ q. omega arith), ne-eqb (e .kind) 3 (λ q. omega arith), ne-eqb (e .kind) 4 (λ q. omega arith), ne-eqb (e .kind) 5 (λ q. omega arith),
-      ne-eqb (e .kind) 6 (λ q. omega arith), ne-eqb (e .kind) 7 (λ q. omega arith), ne-eqb (e .kind) 8 (λ q. omega arith), ne-eqb (e .kind) 9 (λ q. omega arith), ne-eqb (e .kind) 10 (λ q. omega arith),
-      ne-eqb (e .kind) 11 (λ q. omega arith), ne-eqb (e .kind) 12 (λ q. omega arith), ne-eqb (e .kind) 13 (λ q. omega arith), ne-eqb (e .kind) 14 (λ q. omega arith), ne-eqb (e .kind) 15 (λ q. omega arith))
+      simp (
+        ne-eqb (e .kind) 1 (λ q. omega arith),
+        ne-eqb (e .kind) 2 (λ q. omega arith),
+        ne-eqb (e .kind) 3 (λ q. omega arith),
+        ne-eqb (e .kind) 4 (λ q. omega arith),
+        ne-eqb (e .kind) 5 (λ q. omega arith),
+        ne-eqb (e .kind) 6 (λ q. omega arith),
+        ne-eqb (e .kind) 7 (λ q. omega arith),
+        ne-eqb (e .kind) 8 (λ q. omega arith),
+        ne-eqb (e .kind) 9 (λ q. omega arith),
+        ne-eqb (e .kind) 10 (λ q. omega arith),
+        ne-eqb (e .kind) 11 (λ q. omega arith),
+        ne-eqb (e .kind) 12 (λ q. omega arith),
+        ne-eqb (e .kind) 13 (λ q. omega arith),
+        ne-eqb (e .kind) 14 (λ q. omega arith),
+        ne-eqb (e .kind) 15 (λ q. omega arith),
+      )
 
   pub kind-low : wellMade e ≡ true → 1 ≤ e .kind
   kind-low w = by-cases (eqb (e .kind) 0) (λ q. absurd (false≢true (sym (no-kind (eqb-true (e .kind) 0 q)) ∙ w))) (λ q. let n = eqb-false (e .kind) 0 q in omega arith)

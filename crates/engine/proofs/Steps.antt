@@ -41,75 +41,78 @@ early-step b e h = back-refused b 2 ∙ ap (putBack b) (through-early (b .statio
 pub ill-step : (b : Board) (e : Event) → b .station .last ≤ e .time → wellMade e ≡ false → refusedBoard b 3 ≡ stepSoundBoard b e
 ill-step b e h w = back-refused b 3 ∙ ap (putBack b) (through-ill (b .station) (lent b) e h w)
 
-module _ (b : Board) (d : Desk) (e : Event) (p : Passed b d e) (long : length (b .calls) ≡ 64) where
+module _ (b : Board) (d : Desk) (e : Event) (p : Passed b d e) where
   pub opened-step : (i : ℕ) → i ≡ trailingZeros 64 (d .free) → e .kind < 4 → i < b .len
       → settledBoard b e i (b .station .next) (opened e) ≡ stepSoundBoard b e
   opened-step i q k l =
       let n : diverts e ≡ false = ne-eqb (e .kind) 6 (λ z. omega arith) in
       back-settled b e i (b .station .next) (opened e) l (rw n)
       ∙ ap (putBack b)
-        (through-opened (b .station) (lent b) e (p .late) (p .made) i (found-free (b .len) (b .calls) (p .short) long d (p .kept) i q l) k
-        (omega (arith, lent-long (b .len) (b .calls) (p .short) long)))
+      (through-opened (b .station) (lent b) e (p .late) (p .made) i (found-free (b .len) (b .calls) (p .short) (p .long) d (p .kept) i q l) k
+      (omega (arith, lent-long (b .len) (b .calls) (p .short) (p .long))))
 
   pub full-step : (i : ℕ) → i ≡ trailingZeros 64 (d .free) → e .kind < 4 → b .len ≤ i → refusedBoard b 8 ≡ stepSoundBoard b e
   full-step i q k l =
       back-refused b 8
-      ∙ ap (putBack b) (through-full (b .station) (lent b) e (p .late) (p .made) (first isFree (lent b)) refl k (none-free (b .len) (b .calls) (p .short) long d (p .kept) i q l))
+      ∙ ap (putBack b) (through-full (b .station) (lent b) e (p .late) (p .made) (first isFree (lent b)) refl k (none-free (b .len) (b .calls) (p .short) (p .long) d (p .kept) i q l))
 
   pub ended-step : (i : ℕ) → e .time ≤ never → i ≡ first (under (e .time)) (d .dues) → e .kind ≡ 10 → i < b .len
       → settledBoard b e i (b .station .next) (expired (getD (b .calls) i freeCall)) ≡ stepSoundBoard b e
   ended-step i t q k l =
-      rw (← lent-at (b .len) (b .calls) (p .short) long i l)
+      rw (← lent-at (b .len) (b .calls) (p .short) (p .long) i l)
       (back-settled b e i (b .station .next) (expired (at (lent b) i)) l (rw k)
       ∙ ap (putBack b)
-        (through-ended (b .station) (lent b) e (p .late) (p .made) i (found-due (b .len) (b .calls) (p .short) long d (p .kept) (e .time) i t q l) k
-        (omega (arith, lent-long (b .len) (b .calls) (p .short) long))))
+      (through-ended (b .station) (lent b) e (p .late) (p .made) i (found-due (b .len) (b .calls) (p .short) (p .long) d (p .kept) (e .time) i t q l) k
+      (omega (arith, lent-long (b .len) (b .calls) (p .short) (p .long)))))
 
   pub idle-step : (i : ℕ) → e .time ≤ never → i ≡ first (under (e .time)) (d .dues) → e .kind ≡ 10 → b .len ≤ i → idleBoard b e ≡ stepSoundBoard b e
   idle-step i t q k l =
       back-none b e k
-      ∙ ap (putBack b) (through-none (b .station) (lent b) e (p .late) (p .made) (first (due (e .time)) (lent b)) refl k (none-due (b .len) (b .calls) (p .short) long d (p .kept) (e .time) i t q l))
+      ∙ ap (putBack b) (through-none (b .station) (lent b) e (p .late) (p .made) (first (due (e .time)) (lent b)) refl k (none-due (b .len) (b .calls) (p .short) (p .long) d (p .kept) (e .time) i t q l))
 
   module _ (k : 4 ≤ e .kind) (n : e .kind ≡ 10 → ⊥) where
     pub outside-step : b .len ≤ e .call → refusedBoard b 4 ≡ stepSoundBoard b e
     outside-step l =
         back-refused b 4
-        ∙ ap (putBack b) (through-outside (b .station) (lent b) e (p .late) (p .made) k n (omega (arith, lent-long (b .len) (b .calls) (p .short) long)))
+        ∙ ap (putBack b) (through-outside (b .station) (lent b) e (p .late) (p .made) k n (omega (arith, lent-long (b .len) (b .calls) (p .short) (p .long))))
 
     module _ (l : e .call < b .len) where
       named : (r : ℕ) → r ≡ namedRefusal (b .station) (getD (b .calls) (e .call) freeCall) e → r ≡ namedRefusal (b .station) (at (lent b) (e .call)) e
-      named r q = rw (lent-at (b .len) (b .calls) (p .short) long (e .call) l) q
+      named r q = rw (lent-at (b .len) (b .calls) (p .short) (p .long) (e .call) l) q
 
       pub refused-step : (r : ℕ) → r ≡ namedRefusal (b .station) (getD (b .calls) (e .call) freeCall) e → (r ≡ 0 → ⊥) → refusedBoard b r ≡ stepSoundBoard b e
       refused-step r q z =
           back-refused b r
           ∙ ap (putBack b)
-            (through-refused (b .station) (lent b) e (p .late) (p .made) r (named r q) k n (omega (arith, lent-long (b .len) (b .calls) (p .short) long)) z)
+          (through-refused (b .station) (lent b) e (p .late) (p .made) r (named r q) k n (omega (arith, lent-long (b .len) (b .calls) (p .short) (p .long))) z)
 
       -- the identifier from the column is the one that the definition draws, and others are not read
       same-act : (c : Call) (identifier : ℕ) → identifier ≡ identifierIn e (d .held) (b .station .next) → act c e identifier ≡ act c e (identifierFor (b .station) (lent b))
       same-act c identifier q =
           by-cases (diverts e)
-          (λ t. ap (act c e) (q ∙ rw t (found-identifier (b .len) (b .calls) (p .short) long d (p .kept) (b .station .next))))
+          (λ t. ap (act c e) (q ∙ rw t (found-identifier (b .len) (b .calls) (p .short) (p .long) d (p .kept) (b .station .next))))
           (λ t. act-other e c identifier (identifierFor (b .station) (lent b)) t)
 
       same-next : (identifier : ℕ) → identifier ≡ identifierIn e (d .held) (b .station .next) → nextWith e identifier (b .station .next) ≡ nextAfter (b .station) (lent b) e
       same-next identifier q =
           by-cases (diverts e)
-          (λ t. rw t (ap after (q ∙ rw t (found-identifier (b .len) (b .calls) (p .short) long d (p .kept) (b .station .next)))))
+          (λ t. rw t (ap after (q ∙ rw t (found-identifier (b .len) (b .calls) (p .short) (p .long) d (p .kept) (b .station .next)))))
           (λ t. rw t)
 
       pub done-step : (r identifier : ℕ) → r ≡ namedRefusal (b .station) (getD (b .calls) (e .call) freeCall) e → r ≡ 0
           → identifier ≡ identifierIn e (d .held) (b .station .next)
           → settledBoard b e (e .call) (nextWith e identifier (b .station .next)) (act (getD (b .calls) (e .call) freeCall) e identifier) ≡ stepSoundBoard b e
       done-step r identifier q z i =
-          rw (← lent-at (b .len) (b .calls) (p .short) long (e .call) l, same-act (at (lent b) (e .call)) identifier i)
+          rw (← lent-at (b .len) (b .calls) (p .short) (p .long) (e .call) l, same-act (at (lent b) (e .call)) identifier i)
           (back-settled b e (e .call) (nextWith e identifier (b .station .next)) (act (at (lent b) (e .call)) e (identifierFor (b .station) (lent b))) l (same-next identifier i)
           ∙ ap (putBack b)
-            (through-done (b .station) (lent b) e (p .late) (p .made) r (named r q) k n (omega (arith, lent-long (b .len) (b .calls) (p .short) long)) z))
+          (through-done (b .station) (lent b) e (p .late) (p .made) r (named r q) k n (omega (arith, lent-long (b .len) (b .calls) (p .short) (p .long))) z))
 
 -- a divert that is not refused is within the limit, so its counter has room for one more
-last-test : (a b c d : Bool) → (when a then 4 else when b then 5 else when c then 6 else when d then 7 else 0) ≡ 0 → d ≡ false
+abbrev numbered : Bool → Bool → Bool → Bool → ℕ
+numbered a b c d = when a then 4 else when b then 5 else when c then 6 else when d then 7 else 0
+
+last-test : (a b c d : Bool) → numbered a b c d ≡ 0 → d ≡ false
 last-test true b c d q = absurd (omega (arith, q))
 last-test false true c d q = absurd (omega (arith, q))
 last-test false false true d q = absurd (omega (arith, q))

@@ -45,8 +45,17 @@ module _ (s : Station) (calls : List Call) (e : Event) where
       open-number : e .kind < 4 → refusalOnSound s calls e ≡ (when leb (length calls) (first isFree calls) then 8 else 0)
       unfolding refusalOnSound stateForbids
       open-number k =
-          simp (le-ltb (e .time) (s .last) h, w, no-incoming e k, no-outgoing e (omega arith), opener e (kind-low e w) k, ne-eqb (e .kind) 11 (λ q. omega arith),
-          ne-eqb (e .kind) 7 (λ q. omega arith), ne-eqb (e .kind) 8 (λ q. omega arith), ne-eqb (e .kind) 6 (λ q. omega arith))
+          simp (
+            le-ltb (e .time) (s .last) h,
+            w,
+            no-incoming e k,
+            no-outgoing e (omega arith),
+            opener e (kind-low e w) k,
+            ne-eqb (e .kind) 11 (λ q. omega arith),
+            ne-eqb (e .kind) 7 (λ q. omega arith),
+            ne-eqb (e .kind) 8 (λ q. omega arith),
+            ne-eqb (e .kind) 6 (λ q. omega arith),
+          )
 
       -- a clock event is never refused
       clock-number : e .kind ≡ 10 → refusalOnSound s calls e ≡ 0

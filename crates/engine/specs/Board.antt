@@ -5,7 +5,7 @@ use mathlib.Core.Path.{_≡_}
 use mathlib.Core.Bool.{Bool, true, false, _&&_, _||_, not}
 use mathlib.Core.List.{List, [], _∷_, _++_}
 use lib.Dec.{ltb, eqb}
-use lib.ListN.{take, drop, set}
+use lib.ListN.{length, take, drop, set}
 use Rattle.ground.specs.Choice.{when_then_else_}
 use Rattle.ground.specs.Lists.{any}
 use Rattle.event.specs.declared.Event.{Event}
@@ -95,6 +95,7 @@ nextWith e identifier next = when diverts e then after identifier else next
 -- the event passed tests 2 and 3, and what is kept beside the table is true of it
 pub record Passed (b : Board) (d : Desk) (e : Event) : Type 0 where
   pub short : b .len ≤ 64
+  pub long : length (b .calls) ≡ 64
   pub kept : Kept (over (b .len) (b .calls) frees) d
   pub late : b .station .last ≤ e .time
   pub made : wellMade e ≡ true

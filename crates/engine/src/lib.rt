@@ -42,7 +42,10 @@ fn refused(b: Board, code: u8) -> Stepped
     ensures { λ r. ⌜ r ≡ refusedBoard b code ⌝ }
 {
     let answer = station::empty_answer(code);
-    Stepped { answer: answer, board: b }
+    Stepped {
+        answer: answer,
+        board: b,
+    }
 }
 
 // A clock event with none due.
@@ -52,7 +55,10 @@ fn idle(b: Board, e: Event) -> Stepped
     let answer = station::empty_answer(0);
     let mut next = b;
     next.station.last = e.time;
-    Stepped { answer: answer, board: next }
+    Stepped {
+        answer: answer,
+        board: next,
+    }
 }
 
 // What a done event answers, from its effect on the record at i.
@@ -81,7 +87,10 @@ fn settled(b: Board, e: Event, i: usize, next: u16, x: Effect) -> Stepped
     after.calls[i] = c;
     after.station.last = e.time;
     after.station.next = next;
-    Stepped { answer: answer, board: after }
+    Stepped {
+        answer: answer,
+        board: after,
+    }
 }
 
 fn identifier_in(e: Event, held: &[u32; 64], next: u16) -> u16

@@ -1,7 +1,7 @@
+use lib.ListN.{getD}
+use Rattle.call.specs.Record.{freeCall}
 use mathlib.Core.Path.{_≡_, refl, sym, ap, _∙_}
 use native.Mathlib.Omega.{arith}
-use lib.ListN.{length}
-use Rattle.ground.proofs.Walks.{mapped-long}
 use Rattle.engine.proofs.Steps.{outside-step, refused-step, done-step, room}
 use borrow.Author.Needs.{needs}
 use Rattle.engine.proofs.naming.Statement.{statement}
@@ -16,8 +16,7 @@ refused-requires c κs = search needs
 returns : tie.Need-returns
 returns c =
     let s = c .before .before .before .before in
-    let long : length (s .args .t1 .calls) ≡ 64 = search mapped-long in
-    c .refused .ensures ∙ outside-step (s .args .t1) (s .args .d) (s .args .e) (s .pre .0) long (s .pre .1) (s .pre .2) (c .before .if1 .taken)
+    c .refused .ensures ∙ outside-step (s .args .t1) (s .args .d) (s .args .e) (s .pre .0) (s .pre .1) (s .pre .2) (c .before .if1 .taken)
 
 mul-c : tie.Need-mul-c
 mul-c c = search needs
@@ -35,7 +34,7 @@ act-requires : tie.Need-act-requires
 act-requires c κs =
     let s = c .before .before .before .before .before .before .before .before .before in
     let a = s .args in
-    λ k. room (a .t1 .station) _ (a .e) _ (c .before .before .before .before .named-refusal .ensures) (c .before .before .before .if2 .taken) (omega (arith, s .good)) k
+    λ k. room (a .t1 .station) (getD (a .t1 .calls) (a .e .call) freeCall) (a .e) _ (c .before .before .before .before .named-refusal .ensures) (c .before .before .before .if2 .taken) (omega (arith, s .good)) k
 
 next-with-requires : tie.Need-next-with-requires
 next-with-requires c κs = search needs
@@ -49,17 +48,15 @@ refused-requires-2 c κs = search needs
 returns-2 : tie.Need-returns-2
 returns-2 c =
     let s = c .before .before .before .before .before .before .before .before .before .before .before .before in
-    let long : length (s .args .t1 .calls) ≡ 64 = search mapped-long in
     c .settled .ensures
     ∙ rw (c .before .next-with .ensures, c .before .before .act .ensures)
-      (done-step (s .args .t1) (s .args .d) (s .args .e) (s .pre .0) long (s .pre .1) (s .pre .2) (omega arith) _ _ (c .before .before .before .before .before .before .before .named-refusal .ensures) (c .before .before .before .before .before .before .if2 .taken) (c .before .before .before .identifier-in .ensures))
+    (done-step (s .args .t1) (s .args .d) (s .args .e) (s .pre .0) (s .pre .1) (s .pre .2) (omega (arith, c .before .before .before .before .before .before .before .before .before .if1)) _ _ (c .before .before .before .before .before .before .before .named-refusal .ensures) (c .before .before .before .before .before .before .if2 .taken) (c .before .before .before .identifier-in .ensures))
 
 returns-3 : tie.Need-returns-3
 returns-3 c =
     let s = c .before .before .before .before .before .before .before in
-    let long : length (s .args .t1 .calls) ≡ 64 = search mapped-long in
     c .refused2 .ensures
-    ∙ refused-step (s .args .t1) (s .args .d) (s .args .e) (s .pre .0) long (s .pre .1) (s .pre .2) (omega arith) _ (c .before .before .named-refusal .ensures) (c .before .if2 .left)
+    ∙ refused-step (s .args .t1) (s .args .d) (s .args .e) (s .pre .0) (s .pre .1) (s .pre .2) (omega arith) _ (c .before .before .named-refusal .ensures) (c .before .if2 .left)
 
 pub naming-spec : {M : Type 1} → statement M
 naming-spec =

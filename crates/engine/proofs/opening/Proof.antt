@@ -1,7 +1,5 @@
 use mathlib.Core.Path.{_≡_, refl, sym, ap, _∙_}
 use native.Mathlib.Omega.{arith}
-use lib.ListN.{length}
-use Rattle.ground.proofs.Walks.{mapped-long}
 use Rattle.engine.proofs.Steps.{opened-step, full-step}
 use borrow.Author.Needs.{needs}
 use Rattle.engine.proofs.opening.Statement.{statement}
@@ -22,15 +20,13 @@ refused-requires c κs = search needs
 returns : tie.Need-returns
 returns c =
     let s = c .before .before .before .before in
-    let long : length (s .args .b .calls) ≡ 64 = search mapped-long in
     c .settled .ensures
-    ∙ rw (c .before .opened .ensures) (opened-step (s .args .b) (s .args .d) (s .args .e) (s .pre .0) long _ (c .before .before .before .lowest .ensures) (s .pre .1) (c .before .before .if1 .taken))
+    ∙ rw (c .before .opened .ensures) (opened-step (s .args .b) (s .args .d) (s .args .e) (s .pre .0) _ (c .before .before .before .lowest .ensures) (s .pre .1) (c .before .before .if1 .taken))
 
 returns-2 : tie.Need-returns-2
 returns-2 c =
     let s = c .before .before .before in
-    let long : length (s .args .b .calls) ≡ 64 = search mapped-long in
-    c .refused .ensures ∙ full-step (s .args .b) (s .args .d) (s .args .e) (s .pre .0) long _ (c .before .before .lowest .ensures) (s .pre .1) (c .before .if1 .left)
+    c .refused .ensures ∙ full-step (s .args .b) (s .args .d) (s .args .e) (s .pre .0) _ (c .before .before .lowest .ensures) (s .pre .1) (c .before .if1 .left)
 
 pub opening-spec : {M : Type 1} → statement M
 opening-spec =

@@ -1,7 +1,5 @@
 use mathlib.Core.Path.{_≡_, refl, sym, ap, _∙_}
 use native.Mathlib.Omega.{arith}
-use lib.ListN.{length}
-use Rattle.ground.proofs.Walks.{mapped-long}
 use Rattle.engine.proofs.Steps.{ended-step, idle-step}
 use borrow.Author.Needs.{needs}
 use Rattle.engine.proofs.ticking.Statement.{statement}
@@ -28,17 +26,15 @@ idle-requires c κs = search needs
 returns : tie.Need-returns
 returns c =
     let s = c .before .before .before .before .before .before .before in
-    let long : length (s .args .t1 .calls) ≡ 64 = search mapped-long in
     c .settled .ensures
     ∙ rw (c .before .expired .ensures)
-      (ended-step (s .args .t1) (s .args .d) (s .args .e) (s .pre .0) long _ (omega (arith, s .good)) (c .before .before .before .before .first-past .ensures) (s .pre .1) (c .before .before .before .if1 .taken))
+    (ended-step (s .args .t1) (s .args .d) (s .args .e) (s .pre .0) _ (omega (arith, s .good)) (c .before .before .before .before .first-past .ensures) (s .pre .1) (c .before .before .before .if1 .taken))
 
 returns-2 : tie.Need-returns-2
 returns-2 c =
     let s = c .before .before .before .before .before in
-    let long : length (s .args .t1 .calls) ≡ 64 = search mapped-long in
     c .idle .ensures
-    ∙ idle-step (s .args .t1) (s .args .d) (s .args .e) (s .pre .0) long _ (omega (arith, s .good)) (c .before .before .first-past .ensures) (s .pre .1) (c .before .if1 .left)
+    ∙ idle-step (s .args .t1) (s .args .d) (s .args .e) (s .pre .0) _ (omega (arith, s .good)) (c .before .before .first-past .ensures) (s .pre .1) (c .before .if1 .left)
 
 pub ticking-spec : {M : Type 1} → statement M
 ticking-spec =
