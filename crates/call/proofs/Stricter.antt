@@ -56,7 +56,7 @@ none-stricter = lowered noDli1 0 (omega arith) (omega arith)
 new-stricter : StricterHistory noHistory noHistory
 new-stricter = history-stricter noHistory (omega arith)
 
-free-stricter : StricterCall freeCall freeCall
+pub free-stricter : StricterCall freeCall freeCall
 free-stricter = stricter freeCall noDli1 noHistory none-stricter new-stricter
 
 -- "Rules for incoming calls"
@@ -187,11 +187,11 @@ pub forbids-same : {c c' : Call} {e e' : Event} → StricterCall c c' → Framed
 unfolding stateForbids
 forbids-same (stricter c w h p q) (framed e option flag) = refl
 
-pub free-same : {c c' : Call} → StricterCall c c' → isFree c' ≡ isFree c
-free-same (stricter c w h p q) = refl
+pub free-same : (c c' : Call) → StricterCall c c' → isFree c' ≡ isFree c
+free-same c c' (stricter d w h p q) = refl
 
-pub due-same : {c c' : Call} (time : ℕ) → StricterCall c c' → due time c' ≡ due time c
-due-same time (stricter c w h p q) = refl
+pub due-same : (time : ℕ) (c c' : Call) → StricterCall c c' → due time c' ≡ due time c
+due-same time c c' (stricter d w h p q) = refl
 
 -- The bounds that a relation wants, in a sound record.
 dli1-small : (d : Dli1) → T (dli1Unused d) → d .option ≤ 2
