@@ -1,7 +1,7 @@
 -- One event on a record and on a stricter one. Assumes nothing.
 use Prim.Native.Nat.{ℕ, _≤_, _<_}
 use mathlib.Core.Path.{_≡_, refl}
-use mathlib.Core.Bool.{Bool, true, false}
+use mathlib.Core.Bool.{Bool, true, false, _&&_, _||_}
 use mathlib.Core.Logic.{⊎-elim}
 use native.Mathlib.Nat.{le-refl, le-of-lt}
 use native.Mathlib.Omega.{arith}
@@ -153,11 +153,18 @@ option-small e t =
     by-cases (leb (e .option) 2) (leb-true (e .option) 2)
     (λ n. let big : 2 < e .option = leb-false (e .option) 2 n in absurd (simp (n, ne-eqb (e .option) 0 (λ z. omega arith), and-false) at t))
 
--- an event on an incoming call is never tightened
+-- an event is tightened only in kinds 12 to 14: one that a test on the kind takes is the same, if the test takes none of these
+pub untightened : {e e' : Event} (test : ℕ → Bool) → (T (test 12) → ⊥) → (T (test 13) → ⊥) → (T (test 14) → ⊥) → StricterEvent e e'
+    → T (test (e .kind)) → e' ≡ e
+untightened test a b c (same e) t = refl
+untightened test a b c (lower e option k l m) t = absurd (⊎-elim (λ (z : e .kind ≡ 12). a (rw z at t)) (λ (z : e .kind ≡ 13). b (rw z at t)) k)
+untightened test a b c (hide e k) t = absurd (c (rw k at t))
+
 incoming-same : {e e' : Event} → StricterEvent e e' → T (ofIncoming e) → e' ≡ e
-incoming-same (same e) t = refl
-incoming-same (lower e option k l m) t = absurd (⊎-elim (λ z. rw z at t) (λ z. rw z at t) k)
-incoming-same (hide e k) t = absurd (rw k at t)
+incoming-same q t = untightened (λ k. (leb 4 k && leb k 9) || eqb k 15) (λ z. z) (λ z. z) (λ z. z) q t
+
+pub opening-same : {e e' : Event} → StricterEvent e e' → T (opens e) → e' ≡ e
+opening-same q t = untightened (λ k. leb 1 k && leb k 3) (λ z. z) (λ z. z) (λ z. z) q t
 
 opened-stricter : (e : Event) → StricterEffect (opened e) (opened e)
 opened-stricter e = when-effect (eqb (e .kind) 1) (λ t. quiet (stricter _ _ _ none-stricter new-stricter)) (quiet (stricter _ _ _ none-stricter new-stricter))

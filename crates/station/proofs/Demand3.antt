@@ -1,13 +1,13 @@
 -- Demand 3: a stricter run shows no more and is otherwise the same. Takes as parameter that each event leaves a sound table.
 use Prim.Native.Nat.{ℕ}
-use mathlib.Core.Path.{_≡_, refl, _∙_}
+use mathlib.Core.Path.{_≡_, refl, ap, sym, _∙_}
 use mathlib.Core.Bool.{Bool, true, false, not, _&&_}
 use mathlib.Core.List.{List, [], _∷_, Forall₂, Forall₂·nil, Forall₂·cons}
-use lib.Dec.{T, ltb, eqb}
+use lib.Dec.{T, ltb, eqb, eqb→eq}
 use lib.ListN.{length}
 use Rattle.ground.specs.Choice.{when_then_else_}
 use Rattle.ground.specs.Lists.{all}
-use Rattle.ground.proofs.Bools.{and-l, and-r, by-cases, from-true, from-false}
+use Rattle.ground.proofs.Bools.{and-l, and-r, by-cases, from-true, from-false, when-has}
 use Rattle.ground.proofs.Pointwise.{length-rel, set-rel}
 use Rattle.event.specs.declared.Event.{Event}
 use Rattle.event.specs.Kinds.{diverts}
@@ -21,6 +21,7 @@ use Rattle.call.specs.Stricter.{StricterEvent, StricterCall, StricterEffect}
 use Rattle.call.proofs.Stricter.{when-keeps, Framed, framed, framed-of, act-rel, call-stricter}
 use Rattle.station.specs.declared.Station.{Station}
 use Rattle.station.specs.declared.Answer.{Answer}
+use Rattle.station.specs.Station.{emptyAnswer}
 use Rattle.station.specs.Table.{sound, identifierFor, place}
 use Rattle.station.specs.Refusals.{notSound, early, refusalOnSound, refusal}
 use Rattle.station.specs.Step.{Outcome, refused, stationAfter, noneDue, effectAt, settled, done, byNumber, step, outcomes}
@@ -46,6 +47,14 @@ module _ (s : Station) (calls : List Call) (e : Event) where
   pub step-idle : T (not (acts s calls e)) → step s calls e ≡ (when eqb (refusal s calls e) 0 then noneDue s calls e else refused s calls (refusal s calls e))
   unfolding step byNumber done
   step-idle t = outer (eqb (refusal s calls e) 0) (ltb (place calls e) (length calls)) _ _ _ t
+
+  pub idle-answer : T (not (acts s calls e)) → step s calls e .answer ≡ emptyAnswer (refusal s calls e)
+  idle-answer t =
+      let code : ℕ = refusal s calls e in
+      rw (step-idle t) (when-has (λ (o : Outcome). o .answer ≡ emptyAnswer code) (eqb code 0) (λ y. ap emptyAnswer (sym (eqb→eq code 0 y))) (λ n. refl))
+
+  pub idle-calls : T (not (acts s calls e)) → step s calls e .calls ≡ calls
+  idle-calls t = rw (step-idle t) (when-has (λ (o : Outcome). o .calls ≡ calls) (eqb (refusal s calls e) 0) (λ y. refl) (λ n. refl))
 
 -- what is done is well made
 past-three : (a b c : Bool) (n : ℕ) → T (eqb (when a then 1 else when b then 2 else when not c then 3 else n) 0) → T c

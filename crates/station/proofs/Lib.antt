@@ -1,2 +1,3 @@
 pub mod Shared
 pub mod Demand3
+pub mod Lives
