@@ -1,1 +1,2 @@
 pub mod Stricter
+pub mod AsStrict

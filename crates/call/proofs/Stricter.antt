@@ -5,28 +5,25 @@ use mathlib.Core.Bool.{Bool, true, false, _&&_, _||_}
 use mathlib.Core.Logic.{⊎-elim}
 use native.Mathlib.Nat.{le-refl, le-of-lt}
 use native.Mathlib.Omega.{arith}
-use lib.Dec.{T, leb, eqb, leb→le, eqb→eq}
+use lib.Dec.{T, leb, eqb}
 use borrow.Author.Tests.{leb-true, leb-false, ne-eqb}
 use Rattle.ground.specs.Choice.{when_then_else_}
-use Rattle.ground.proofs.Bools.{and-l, and-r, by-cases, when-has}
+use Rattle.ground.proofs.Bools.{by-cases}
 use Rattle.ground.proofs.Walks.{and-false}
 use Rattle.event.specs.declared.Event.{Event}
 use Rattle.event.specs.Kinds.{cfnr, alerting, connect, releaseComplete, onLeg2, opens, ofIncoming, ofOutgoing, clock}
 use Rattle.event.specs.WellMade.{wellMade}
-use Rattle.notice.specs.declared.Dli1.{Dli1}
-use Rattle.notice.specs.declared.History.{History}
-use Rattle.notice.specs.Notice.{noNotice, noNumber, allowed, forbidden, seen, noHistory}
-use Rattle.notice.specs.Stricter.{ShownOnlyWhere, agreed, StricterDli1, lowered, StricterFlag, kept, forbade, highest, StricterHistory}
+use Rattle.notice.specs.Notice.{noNotice, noNumber, allowed, forbidden, noHistory}
+use Rattle.notice.specs.Stricter.{ShownOnlyWhere, agreed, StricterDli1, lowered, StricterFlag, kept, forbade, StricterHistory}
 use Rattle.notice.proofs.Stricter.{dli1-stricter, notice-stricter, number-stricter, dli3-stricter, history-stricter}
 use Rattle.call.specs.declared.Call.{Call}
 use Rattle.call.specs.declared.Sent.{Sent}
 use Rattle.call.specs.declared.Effect.{Effect}
-use Rattle.call.specs.Record.{isFree, isOutgoing, isIncoming, divert, invoked, noDli1, freeCall}
-use Rattle.call.specs.Soundness.{dli1Unused, historyUnused, outgoingUnused, waitingHolds, historyHolds, soundOutgoing, soundIncoming, soundCall}
+use Rattle.call.specs.Record.{isFree, divert, invoked, noDli1, freeCall}
 use Rattle.call.specs.State.{stateForbids}
 use Rattle.call.specs.Fields.{basic-is}
 use Rattle.call.specs.Incoming.{due, expired, actIncoming}
-use Rattle.call.specs.Outgoing.{dli1Of, turnsDown, rerouted, informed, handOver, cdrIdle, movedOver, withDli3, numberFor, afterMessage, messaged, actOutgoing}
+use Rattle.call.specs.Outgoing.{dli1Of, turnsDown, redirected, forwarded, rerouted, informed, handOver, cdrIdle, movedOver, withDli3, numberFor, afterMessage, takenOver, onFirstLeg, leftAlone, messaged, actOutgoing}
 use Rattle.call.specs.Act.{opened, ended, act}
 use Rattle.call.specs.Stricter.{option-is, flag-is, StricterEvent, same, lower, hide, StricterCall, stricter, StricterEffect}
 
@@ -38,17 +35,11 @@ when-keeps R false p q = q
 when-effect : (b : Bool) {x x' y y' : Effect} → (T b → StricterEffect x x') → StricterEffect y y' → StricterEffect (when b then x else y) (when b then x' else y')
 when-effect b p q = when-keeps StricterEffect b p q
 
--- the same messages, identifier and counter
-showing : {c c' : Call} {sent : Sent} {notice notice' number number' identifier counter : ℕ} → StricterCall c c'
-    → ShownOnlyWhere noNotice notice notice' → ShownOnlyWhere noNumber number number'
-    → StricterEffect (record { call = c; sent = sent; notice = notice; number = number; identifier = identifier; counter = counter })
-    (record { call = c'; sent = sent; notice = notice'; number = number'; identifier = identifier; counter = counter })
-showing p n m = record { call = p; sent = refl; notice = n; number = m; identifier = refl; counter = refl }
-
+-- an effect that shows nothing
 quiet : {c c' : Call} {sent : Sent} {identifier counter : ℕ} → StricterCall c c'
     → StricterEffect (record { call = c; sent = sent; notice = noNotice; number = noNumber; identifier = identifier; counter = counter })
     (record { call = c'; sent = sent; notice = noNotice; number = noNumber; identifier = identifier; counter = counter })
-quiet p = showing p agreed agreed
+quiet p = record { call = p; sent = refl; notice = agreed; number = agreed; identifier = refl; counter = refl }
 
 none-stricter : StricterDli1 noDli1 noDli1
 none-stricter = lowered noDli1 0 (omega arith) (omega arith)
@@ -83,17 +74,52 @@ flag-of (same e) = kept
 flag-of (lower e option k l m) = kept
 flag-of (hide e k) = forbade
 
+-- A rule whose effect hangs on the event's DLI1, and one whose effect hangs on its DLI3.
+abbrev ByDli1 : (Call → Event → Effect) → Type 0
+ByDli1 rule = (c c' : Call) (e e' : Event) → StricterCall c c' → Framed e e' → StricterDli1 (dli1Of e) (dli1Of e') → StricterEffect (rule c e) (rule c' e')
+
+abbrev ByDli3 : (Call → Event → Effect) → Type 0
+ByDli3 rule = (c c' : Call) (e e' : Event) → StricterCall c c' → Framed e e' → StricterFlag (e .flag) (e' .flag) → StricterEffect (rule c e) (rule c' e')
+
+-- "Else cfu or cfb: .."
+redirected-stricter : ByDli1 redirected
+redirected-stricter c c' e e' (stricter _ w h p q) (framed _ option flag) d = record {
+  call = stricter _ w _ p (dli1-stricter q d);
+  sent = refl;
+  notice = notice-stricter q d;
+  number = agreed;
+  identifier = refl;
+  counter = refl;
+}
+
+-- "Else cfnr: .."
+forwarded-stricter : ByDli1 forwarded
+forwarded-stricter c c' e e' (stricter _ w h p q) (framed _ option flag) d = record {
+  call = stricter _ _ h d q;
+  sent = refl;
+  notice = agreed;
+  number = agreed;
+  identifier = refl;
+  counter = refl;
+}
+
 -- "12: .."
-rerouted-stricter : {c c' : Call} {e e' : Event} → StricterCall c c' → Framed e e' → StricterDli1 (dli1Of e) (dli1Of e')
-    → StricterEffect (rerouted c e) (rerouted c' e')
-rerouted-stricter (stricter c w h p q) (framed e option flag) d =
-    when-effect (turnsDown c e) (λ t. quiet (stricter c w h p q))
-    (when-effect (eqb (e .reason) cfnr) (λ t. quiet (stricter _ _ h d q)) (showing (stricter _ w _ p (dli1-stricter q d)) (notice-stricter q d) agreed))
+rerouted-stricter : ByDli1 rerouted
+rerouted-stricter c c' e e' (stricter _ w h p q) (framed _ option flag) d =
+    let r : StricterCall c _ = stricter c w h p q in
+    when-effect (turnsDown c e) (λ t. quiet r)
+    (when-effect (eqb (e .reason) cfnr) (λ t. forwarded-stricter c _ e _ r (framed e option flag) d) (redirected-stricter c _ e _ r (framed e option flag) d))
 
 -- "13: .."
-informed-stricter : {c c' : Call} {e e' : Event} → StricterCall c c' → Framed e e' → StricterDli1 (dli1Of e) (dli1Of e')
-    → StricterEffect (informed c e) (informed c' e')
-informed-stricter (stricter c w h p q) (framed e option flag) d = showing (stricter _ w _ p (dli1-stricter q d)) (notice-stricter q d) agreed
+informed-stricter : ByDli1 informed
+informed-stricter c c' e e' (stricter _ w h p q) (framed _ option flag) d = record {
+  call = stricter _ w _ p (dli1-stricter q d);
+  sent = refl;
+  notice = notice-stricter q d;
+  number = agreed;
+  identifier = refl;
+  counter = refl;
+}
 
 -- "leg 2 becomes leg 1, CDR Idle, DLI1 to the CDO"
 moved-stricter : {c c' : Call} → StricterCall c c' → StricterCall (movedOver c) (movedOver c')
@@ -107,9 +133,9 @@ dli3-call : {c c' : Call} {e e' : Event} → StricterCall c c' → Framed e e' �
     → StricterCall (withDli3 c e) (withDli3 c' e')
 dli3-call (stricter c w h p q) (framed e option flag) f = when-keeps StricterCall (divert c) (λ t. stricter _ w _ p (dli3-stricter q f)) (stricter c w h p q)
 
-number-call : {c c' : Call} {e e' : Event} → StricterCall c c' → Framed e e' → StricterFlag (e .flag) (e' .flag)
+dli3-number : {c c' : Call} {e e' : Event} → StricterCall c c' → Framed e e' → StricterFlag (e .flag) (e' .flag)
     → ShownOnlyWhere noNumber (numberFor c e) (numberFor c' e')
-number-call (stricter c w h p q) (framed e option flag) f = when-keeps (ShownOnlyWhere noNumber) (divert c) (λ t. number-stricter (e .second) q f) agreed
+dli3-number (stricter c w h p q) (framed e option flag) f = when-keeps (ShownOnlyWhere noNumber) (divert c) (λ t. number-stricter (e .second) q f) agreed
 
 -- "ALERTING gives Delivered, CONNECT Active and, after its DLI3, CDO Idle."
 after-stricter : {c c' : Call} (e : Event) → StricterCall c c' → StricterCall (afterMessage e c) (afterMessage e c')
@@ -120,31 +146,60 @@ after-stricter e (stricter c w h p q) =
 idle-stricter : {c c' : Call} → StricterCall c c' → StricterCall (cdrIdle c) (cdrIdle c')
 idle-stricter (stricter c w h p q) = stricter _ noDli1 h none-stricter q
 
-left-stricter : {c c' : Call} → StricterCall c c' → StricterCall (basic-is 1 c) (basic-is 1 c')
-left-stricter (stricter c w h p q) = stricter _ w h p q
+-- "In Invoked, ALERTING or CONNECT on leg 2: .."
+taken-stricter : ByDli3 takenOver
+taken-stricter c c' e e' r (framed _ option flag) f = record {
+  call = after-stricter e (dli3-call (moved-stricter r) (framed e option flag) f);
+  sent = refl;
+  notice = handed-notice r;
+  number = dli3-number (moved-stricter r) (framed e option flag) f;
+  identifier = refl;
+  counter = refl;
+}
+
+-- FACILITY, ALERTING or CONNECT on leg 1
+first-stricter : ByDli3 onFirstLeg
+first-stricter c c' e e' (stricter _ w h p q) (framed _ option flag) f =
+    let r : StricterCall c _ = stricter c w h p q in
+    record {
+      call = after-stricter e (dli3-call (when-keeps StricterCall (connect e) (λ u. idle-stricter r) r) (framed e option flag) f);
+      sent = refl;
+      notice = agreed;
+      number = dli3-number r (framed e option flag) f;
+      identifier = refl;
+      counter = refl;
+    }
+
+-- "RELEASE on leg 1: leg 2 becomes leg 1, Proceeding, CDR Idle, DLI1 to the CDO (ours)."
+left-stricter : {c c' : Call} → StricterCall c c' → StricterEffect (leftAlone c) (leftAlone c')
+left-stricter (stricter c w h p q) = record {
+  call = proceeding (moved-stricter (stricter c w h p q));
+  sent = refl;
+  notice = handed-notice (stricter c w h p q);
+  number = agreed;
+  identifier = refl;
+  counter = refl;
+}
+  where
+    proceeding : {c c' : Call} → StricterCall c c' → StricterCall (basic-is 1 c) (basic-is 1 c')
+    proceeding (stricter c w h p q) = stricter _ w h p q
 
 -- "14: .."
-messaged-stricter : {c c' : Call} {e e' : Event} → StricterCall c c' → Framed e e' → StricterFlag (e .flag) (e' .flag)
-    → StricterEffect (messaged c e) (messaged c' e')
-messaged-stricter (stricter c w h p q) (framed e option flag) f =
+messaged-stricter : ByDli3 messaged
+messaged-stricter c c' e e' (stricter _ w h p q) (framed _ option flag) f =
     let r : StricterCall c _ = stricter c w h p q in
-    let m = moved-stricter r in
-    let a : Framed e _ = framed e option flag in
     when-effect (releaseComplete e)
-    (λ t. when-effect (onLeg2 e) (λ u. quiet (idle-stricter r))
-    (when-effect (invoked c) (λ u. showing (left-stricter m) (handed-notice r) agreed) (quiet free-stricter)))
-    (when-effect (onLeg2 e)
-    (λ t. showing (after-stricter e (dli3-call m a f)) (handed-notice r) (number-call m a f))
-    (showing (after-stricter e (dli3-call (when-keeps StricterCall (connect e) (λ u. idle-stricter r) r) a f)) agreed (number-call r a f)))
+    (λ t. when-effect (onLeg2 e) (λ u. quiet (idle-stricter r)) (when-effect (invoked c) (λ u. left-stricter r) (quiet free-stricter)))
+    (when-effect (onLeg2 e) (λ t. taken-stricter c _ e _ r (framed e option flag) f) (first-stricter c _ e _ r (framed e option flag) f))
 
 -- "Rules for outgoing calls"
 outgoing-stricter : {c c' : Call} {e e' : Event} → StricterCall c c' → Framed e e' → StricterDli1 (dli1Of e) (dli1Of e')
     → StricterFlag (e .flag) (e' .flag) → StricterEffect (actOutgoing c e) (actOutgoing c' e')
 unfolding actOutgoing
-outgoing-stricter p (framed e option flag) d f =
+outgoing-stricter {c} {c'} p (framed e option flag) d f =
     let a : Framed e _ = framed e option flag in
-    when-effect (eqb (e .kind) 12) (λ t. rerouted-stricter p a d)
-    (when-effect (eqb (e .kind) 13) (λ t. informed-stricter p a d) (messaged-stricter p a f))
+    when-effect (eqb (e .kind) 12) (λ t. rerouted-stricter c c' e _ p a d)
+    (when-effect (eqb (e .kind) 13) (λ t. informed-stricter c c' e _ p a d) (messaged-stricter c c' e _ p a f))
 
 -- "option 0 to 2", or unused and 0, in every row of the table of kinds
 option-small : (e : Event) → T (wellMade e) → e .option ≤ 2
@@ -199,41 +254,3 @@ free-same c c' (stricter d w h p q) = refl
 
 pub due-same : (time : ℕ) (c c' : Call) → StricterCall c c' → due time c' ≡ due time c
 due-same time c c' (stricter d w h p q) = refl
-
--- The bounds that a relation wants, in a sound record.
-dli1-small : (d : Dli1) → T (dli1Unused d) → d .option ≤ 2
-dli1-small d t = let z : d .option ≡ 0 = search (and-l, and-r, eqb→eq) in omega arith
-
-waiting-small : (c : Call) → T (waitingHolds c) → c .waiting .option ≤ 2
-waiting-small c t =
-    when-has (λ x. T x → c .waiting .option ≤ 2) (invoked c) (λ i u. search (and-l, and-r, leb→le)) (λ i u. dli1-small (c .waiting) u) t
-
-unused-top : (b : Bool) (s : ℕ) → s ≡ 0 → s ≤ (when b then 2 else 0)
-unused-top true s e = omega arith
-unused-top false s e = omega arith
-
-history-top : (h : History) → T (historyUnused h) → h .strictest ≤ highest h
-history-top h t = unused-top (seen h) (h .strictest) (search (and-l, and-r, eqb→eq))
-
-seen-top : (b : Bool) (s : ℕ) → T b → s ≤ 2 → s ≤ (when b then 2 else 0)
-seen-top true s t l = l
-seen-top false s t l = absurd t
-
-held-top : (h : History) → T (historyHolds h) → h .strictest ≤ highest h
-held-top h t =
-    when-has (λ x. T x → h .strictest ≤ highest h) (seen h) (λ b u. seen-top (seen h) (h .strictest) b (search (and-l, leb→le))) (λ b u. history-top h u) t
-
--- a sound record is as strict as itself
-pub call-stricter : (last : ℕ) (c : Call) → T (soundCall last c) → StricterCall c c
-unfolding soundCall soundOutgoing soundIncoming
-call-stricter last c t =
-    when-has (λ x. T x → StricterCall c c) (isFree c) (λ b u. unused (search (and-l, and-r)))
-    (λ b. when-has (λ x. T x → StricterCall c c) (isOutgoing c)
-    (λ b u. made (waiting-small c (search (and-l, and-r))) (held-top (c .history) (search (and-l, and-r))))
-    (λ b. when-has (λ x. T x → StricterCall c c) (isIncoming c) (λ b u. unused (search (and-l, and-r) depth 10)) (λ b u. absurd u))) t
-  where
-    made : c .waiting .option ≤ 2 → c .history .strictest ≤ highest (c .history) → StricterCall c c
-    made small top = stricter c (c .waiting) (c .history) (lowered (c .waiting) (c .waiting .option) (le-refl _) small) (history-stricter (c .history) top)
-
-    unused : T (outgoingUnused c) → StricterCall c c
-    unused u = made (dli1-small (c .waiting) (search (and-l, and-r))) (history-top (c .history) (search (and-l, and-r)))

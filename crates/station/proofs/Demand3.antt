@@ -18,7 +18,8 @@ use Rattle.call.specs.declared.Call.{Call}
 use Rattle.call.specs.declared.Effect.{Effect}
 use Rattle.call.specs.Soundness.{soundCall}
 use Rattle.call.specs.Stricter.{StricterEvent, StricterCall, StricterEffect}
-use Rattle.call.proofs.Stricter.{when-keeps, Framed, framed, framed-of, act-rel, call-stricter}
+use Rattle.call.proofs.Stricter.{when-keeps, Framed, framed, framed-of, act-rel}
+use Rattle.call.proofs.AsStrict.{call-stricter}
 use Rattle.station.specs.declared.Station.{Station}
 use Rattle.station.specs.declared.Answer.{Answer}
 use Rattle.station.specs.Station.{emptyAnswer}
