@@ -8,26 +8,24 @@ use lib.ListN.{length}
 use Rattle.ground.specs.Choice.{when_then_else_}
 use Rattle.ground.specs.Lists.{all}
 use Rattle.ground.proofs.Bools.{and-l, and-r, by-cases, from-true, from-false, when-has}
-use Rattle.ground.proofs.Pointwise.{length-rel, set-rel}
+use Rattle.ground.proofs.Pointwise.{set-rel}
 use Rattle.event.specs.declared.Event.{Event}
-use Rattle.event.specs.Kinds.{diverts}
 use Rattle.event.specs.WellMade.{wellMade}
 use Rattle.notice.specs.Stricter.{agreed}
-use Rattle.identifier.specs.Identifier.{after}
 use Rattle.call.specs.declared.Call.{Call}
 use Rattle.call.specs.declared.Effect.{Effect}
 use Rattle.call.specs.Soundness.{soundCall}
 use Rattle.call.specs.Stricter.{StricterEvent, StricterCall, StricterEffect}
-use Rattle.call.proofs.Stricter.{when-keeps, Framed, framed, framed-of, act-rel}
+use Rattle.call.proofs.Stricter.{when-keeps, framed-of, act-rel}
 use Rattle.call.proofs.AsStrict.{call-stricter}
 use Rattle.station.specs.declared.Station.{Station}
 use Rattle.station.specs.declared.Answer.{Answer}
 use Rattle.station.specs.Station.{emptyAnswer}
 use Rattle.station.specs.Table.{sound, identifierFor, place}
 use Rattle.station.specs.Refusals.{notSound, early, refusalOnSound, refusal}
-use Rattle.station.specs.Step.{Outcome, refused, stationAfter, noneDue, effectAt, settled, done, byNumber, step, outcomes}
-use Rattle.station.specs.Demand3.{StricterAnswer, SameStates, StricterOutcome, acts}
-use Rattle.station.proofs.Shared.{same-states, at-stricter, place-same, identifier-same, refusal-same, acts-same}
+use Rattle.station.specs.Step.{Outcome, refused, noneDue, effectAt, settled, done, byNumber, step, outcomes}
+use Rattle.station.specs.Demand3.{StricterAnswer, SameStates, StricterOutcome, RunsStricter, acts}
+use Rattle.station.proofs.Shared.{same-states, at-stricter, place-same, identifier-same, station-same, refusal-same, acts-same}
 
 -- An event that acts on a record, and one that doesn't.
 inner : {A : Type 0} (a b : Bool) (x y z : A) → T (a && b) → (when a then when b then x else y else z) ≡ x
@@ -78,17 +76,10 @@ answer-alike : (a : Answer) → StricterAnswer a a
 answer-alike a = record { code = refl; call = refl; sent = refl; identifier = refl; counter = refl; notice = agreed; number = agreed }
 
 module _ (s : Station) {t t' : List Call} {e e' : Event} (q : Forall₂ StricterCall t t') (p : StricterEvent e e') where
-  station-same : stationAfter s t' e' ≡ stationAfter s t e
-  station-same = rw (identifier-same q s) (times (framed-of p))
-    where
-      times : {e e' : Event} → Framed e e'
-          → record { last = e' .time; next = when diverts e' then after (identifierFor s t) else s .next; limit = s .limit } ≡ stationAfter s t e
-      times (framed e option flag) = refl
-
   settled-rel : (i : ℕ) {x x' : Effect} → StricterEffect x x' → StricterStep (settled s t e i x) (settled s t' e' i x')
   settled-rel i z = record {
     answer = record { code = refl; call = refl; sent = z .sent; identifier = z .identifier; counter = z .counter; notice = z .notice; number = z .number };
-    station = station-same;
+    station = station-same q s (framed-of p);
     calls = set-rel i q (z .call);
   }
 
@@ -97,7 +88,7 @@ module _ (s : Station) {t t' : List Call} {e e' : Event} (q : Forall₂ Stricter
 
   idle-rel : (code : ℕ) → StricterStep (when eqb code 0 then noneDue s t e else refused s t code) (when eqb code 0 then noneDue s t' e' else refused s t' code)
   idle-rel code =
-      when-keeps StricterStep (eqb code 0) (λ z. record { answer = answer-alike _; station = station-same; calls = q })
+      when-keeps StricterStep (eqb code 0) (λ z. record { answer = answer-alike _; station = station-same q s (framed-of p); calls = q })
       (record { answer = answer-alike _; station = refl; calls = q })
 
   -- the two runs act on a record at the same events, and on the same
@@ -120,7 +111,7 @@ table-states Forall₂·nil = Forall₂·nil
 table-states (Forall₂·cons r rs) = Forall₂·cons (same-states r) (table-states rs)
 
 -- a sound table is as strict as itself
-pub table-stricter : (last : ℕ) (t : List Call) → T (all (soundCall last) t) → Forall₂ StricterCall t t
+table-stricter : (last : ℕ) (t : List Call) → T (all (soundCall last) t) → Forall₂ StricterCall t t
 unfolding all
 table-stricter last [] h = Forall₂·nil
 table-stricter last (c ∷ t) h = Forall₂·cons (call-stricter last c (search and-l)) (table-stricter last t (search and-r))
@@ -131,7 +122,7 @@ sound-stricter s t h = table-stricter (s .last) t (search (and-l, and-r))
 
 -- "Each done event leaves a sound table."
 module _ (step-sound : (s : Station) (calls : List Call) (e : Event) → T (sound s calls) → T (sound (step s calls e .station) (step s calls e .calls))) where
-  pub runs-rel : (s : Station) {t t' : List Call} {es es' : List Event} → T (sound s t) → T (sound s t') → Forall₂ StricterCall t t'
+  runs-rel : (s : Station) {t t' : List Call} {es es' : List Event} → T (sound s t) → T (sound s t') → Forall₂ StricterCall t t'
       → Forall₂ StricterEvent es es' → Forall₂ StricterOutcome (outcomes s t es) (outcomes s t' es')
   unfolding outcomes
   runs-rel s a b q Forall₂·nil = Forall₂·nil
@@ -142,6 +133,5 @@ module _ (step-sound : (s : Station) (calls : List Call) (e : Event) → T (soun
       in
       Forall₂·cons (record { answer = w .answer; station = w .station; calls = table-states (w .calls) }) rest
 
-  pub runs-stricter : (s : Station) (calls : List Call) {es es' : List Event} → T (sound s calls) → Forall₂ StricterEvent es es'
-      → Forall₂ StricterOutcome (outcomes s calls es) (outcomes s calls es')
-  runs-stricter s calls h ps = runs-rel s h h (sound-stricter s calls h) ps
+  pub runs-stricter : RunsStricter
+  runs-stricter s calls es es' h ps = runs-rel s h h (sound-stricter s calls h) ps

@@ -1,12 +1,11 @@
 -- Demand 3: "In calls where nothing was tightened the whole answers are equal." Takes as parameter that each event leaves a sound
 -- table.
-use Prim.Native.Nat.{ℕ, _<_}
+use Prim.Native.Nat.{ℕ}
 use mathlib.Core.Path.{_≡_, refl, ap, sym, _∙_}
 use mathlib.Core.Bool.{Bool, true, false, not, _&&_, _||_}
-use mathlib.Core.List.{List, [], _∷_, Forall₂, Forall₂·nil, Forall₂·cons}
+use mathlib.Core.List.{List, Forall₂, Forall₂·nil, Forall₂·cons}
 use native.Mathlib.Omega.{arith}
-use lib.Dec.{T, ltb, eqb, eqb→eq}
-use lib.ListN.{length, getD, set}
+use lib.Dec.{T, eqb, eqb→eq}
 use lib.Seq.{getD-set-other}
 use borrow.Author.Tests.{eqb-true, eqb-false}
 use Rattle.ground.specs.Choice.{when_then_else_}
@@ -15,16 +14,15 @@ use Rattle.ground.proofs.Pointwise.{set-at}
 use Rattle.event.specs.declared.Event.{Event}
 use Rattle.event.specs.Kinds.{opens}
 use Rattle.call.specs.declared.Call.{Call}
-use Rattle.call.specs.declared.Effect.{Effect}
 use Rattle.call.specs.Record.{freeCall}
 use Rattle.call.specs.Act.{act}
-use Rattle.call.specs.Stricter.{option-is, StricterEvent, same, lower, hide, StricterCall}
+use Rattle.call.specs.Stricter.{StricterEvent, same, lower, hide, StricterCall}
 use Rattle.call.proofs.Stricter.{framed-of, opening-same}
 use Rattle.station.specs.declared.Station.{Station}
 use Rattle.station.specs.Station.{emptyAnswer}
 use Rattle.station.specs.Table.{at, sound, identifierFor, place}
 use Rattle.station.specs.Step.{effectAt, step, outcomes}
-use Rattle.station.specs.Demand3.{tightened, acts, touchedBy, touchedAfter, WholeAnswers, done, next, untouched}
+use Rattle.station.specs.Demand3.{tightened, acts, touchedBy, touchedAfter, WholeAnswers, over, onward, untouched, LivesEqual}
 use Rattle.station.proofs.Shared.{place-same, identifier-same, refusal-same, acts-same}
 use Rattle.station.proofs.Demand3.{step-acts, idle-answer, idle-calls, step-rel, sound-stricter}
 
@@ -49,7 +47,7 @@ free-of true x y f g t = f tt
 free-of false x y f g t = g (nor-l x y t) (nor-r x y t)
 
 -- the records of calls that were not touched are the same
-abbrev pub Same : (ℕ → Bool) → List Call → List Call → Type 0
+abbrev Same : (ℕ → Bool) → List Call → List Call → Type 0
 Same touched t t' = (i : ℕ) → T (not (touched i)) → at t' i ≡ at t i
 
 module _ (touched : ℕ → Bool) (s : Station) {t t' : List Call} {e e' : Event} (q : Forall₂ StricterCall t t') (p : StricterEvent e e') (alike : Same touched t t') where
@@ -99,7 +97,7 @@ module _ (step-sound : (s : Station) (calls : List Call) (e : Event) → T (soun
   lives-rel : (touched : ℕ → Bool) (s : Station) {t t' : List Call} {es es' : List Event} → T (sound s t) → T (sound s t') → Forall₂ StricterCall t t'
       → Same touched t t' → Forall₂ StricterEvent es es' → WholeAnswers touched s t es es' (outcomes s t es) (outcomes s t' es')
   unfolding outcomes
-  lives-rel touched s a b q alike Forall₂·nil = done
+  lives-rel touched s a b q alike Forall₂·nil = over
   lives-rel touched s {t} {t'} a b q alike (Forall₂·cons {a = e} {b = e'} {l₁ = es} {l₂ = es'} p ps) =
       let w = step-rel s q p a b in
       let rest : WholeAnswers (touchedAfter touched s t e e') (step s t e .station) (step s t e .calls) es es'
@@ -108,8 +106,7 @@ module _ (step-sound : (s : Station) (calls : List Call) (e : Event) → T (soun
       (lives-rel (touchedAfter touched s t e e') (step s t e .station) (step-sound s t e a) (rw (w .station) at (step-sound s t' e' b)) (w .calls)
       (records-same touched s q p alike a b) ps)
       in
-      next (answer-same touched s q p alike a b) rest
+      onward (answer-same touched s q p alike a b) rest
 
-  pub lives-equal : (s : Station) (calls : List Call) {es es' : List Event} → T (sound s calls) → Forall₂ StricterEvent es es'
-      → WholeAnswers untouched s calls es es' (outcomes s calls es) (outcomes s calls es')
-  lives-equal s calls h ps = lives-rel untouched s h h (sound-stricter s calls h) (λ i n. refl) ps
+  pub lives-equal : LivesEqual
+  lives-equal s calls es es' h ps = lives-rel untouched s h h (sound-stricter s calls h) (λ i n. refl) ps

@@ -1,14 +1,12 @@
 -- What a refusal, a place and an identifier are taken from is the same in both runs. Assumes nothing.
-use Prim.Native.Nat.{ℕ, suc, _≤_}
-use mathlib.Core.Path.{_≡_, refl, ap}
-use mathlib.Core.Bool.{Bool, true, false, not, _&&_, _||_}
-use mathlib.Core.List.{List, [], _∷_, Forall₂, Forall₂·nil, Forall₂·cons}
+use Prim.Native.Nat.{ℕ, _≤_}
+use mathlib.Core.Path.{_≡_, refl}
+use mathlib.Core.Bool.{Bool}
+use mathlib.Core.List.{List, Forall₂, Forall₂·nil, Forall₂·cons}
 use mathlib.Core.Logic.{⊎-elim}
 use native.Mathlib.Omega.{arith}
-use lib.Dec.{T, ltb, leb, eqb}
-use lib.ListN.{length, getD}
+use lib.Dec.{T}
 use borrow.Author.Tests.{le-leb}
-use Rattle.ground.specs.Choice.{when_then_else_}
 use Rattle.ground.specs.Lists.{first}
 use Rattle.ground.proofs.Bools.{is-true}
 use Rattle.ground.proofs.Pointwise.{getD-rel, length-rel}
@@ -16,14 +14,14 @@ use Rattle.event.specs.declared.Event.{Event}
 use Rattle.event.specs.WellMade.{wellMade}
 use Rattle.notice.specs.Stricter.{lowered, tightened}
 use Rattle.call.specs.declared.Call.{Call}
-use Rattle.call.specs.Record.{freeCall, isFree}
-use Rattle.call.specs.State.{stateForbids}
+use Rattle.call.specs.Record.{isFree}
 use Rattle.call.specs.Incoming.{due}
 use Rattle.call.specs.Stricter.{StricterEvent, same, lower, hide, StricterCall, stricter}
 use Rattle.call.proofs.Stricter.{Framed, framed, framed-of, forbids-same, free-same, due-same, free-stricter}
 use Rattle.station.specs.declared.Station.{Station}
 use Rattle.station.specs.Table.{at, requestsOf, sound, identifierFor, place}
 use Rattle.station.specs.Refusals.{refusalOnSound, refusal}
+use Rattle.station.specs.Step.{stationAfter}
 use Rattle.station.specs.Demand3.{SameStates, acts}
 
 -- a record and a stricter one
@@ -80,6 +78,9 @@ module _ {t t' : List Call} (q : Forall₂ StricterCall t t') where
 
   pub identifier-same : (s : Station) → identifierFor s t' ≡ identifierFor s t
   identifier-same s = rw (requests-same q)
+
+  pub station-same : (s : Station) {e e' : Event} → Framed e e' → stationAfter s t' e' ≡ stationAfter s t e
+  station-same s (framed e option flag) = rw (identifier-same s)
 
   -- numbers 2 to 8
   numbers-same : (s : Station) {e e' : Event} → Framed e e' → wellMade e' ≡ wellMade e → refusalOnSound s t' e' ≡ refusalOnSound s t e

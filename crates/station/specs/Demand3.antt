@@ -3,7 +3,7 @@
 -- same code, call, identifier, counter and messages (arguments included), and agree in basic states, service states and
 -- timers. The stricter run shows a notice or a number only where the other does, the same one. In calls where nothing was
 -- tightened the whole answers are equal."
--- How two events differ is `StricterEvent`, of call's specs/Stricter; a primed name is the stricter run's.
+-- How two events differ is `StricterEvent` of call's specs/Stricter. A primed name is the stricter run's.
 use Prim.Native.Nat.{ℕ}
 use mathlib.Core.Path.{_≡_}
 use mathlib.Core.Bool.{Bool, false, _&&_, _||_, not}
@@ -16,11 +16,12 @@ use Rattle.event.specs.Kinds.{opens}
 use Rattle.notice.specs.Notice.{noNotice, noNumber}
 use Rattle.notice.specs.Stricter.{ShownOnlyWhere}
 use Rattle.call.specs.declared.Call.{Call}
+use Rattle.call.specs.Stricter.{StricterEvent}
 use Rattle.station.specs.declared.Station.{Station}
 use Rattle.station.specs.declared.Answer.{Answer}
-use Rattle.station.specs.Table.{place}
+use Rattle.station.specs.Table.{sound, place}
 use Rattle.station.specs.Refusals.{refusal}
-use Rattle.station.specs.Step.{Outcome}
+use Rattle.station.specs.Step.{Outcome, outcomes}
 
 -- "the same code, call, identifier, counter and messages (arguments included)"; "a notice or a number only where the other does"
 pub record StricterAnswer (a a' : Answer) : Type 0 where
@@ -61,6 +62,12 @@ pub record StricterOutcome (o o' : Outcome) : Type 0 where
   pub station : o' .station ≡ o .station
   pub calls : Forall₂ SameStates (o .calls) (o' .calls)
 
+-- "two runs from the same sound table and station, over event lists that differ only in that .."
+abbrev pub RunsStricter : Type 0
+RunsStricter =
+    (s : Station) (calls : List Call) (es es' : List Event) → T (sound s calls) → Forall₂ StricterEvent es es'
+    → Forall₂ StricterOutcome (outcomes s calls es) (outcomes s calls es')
+
 -- "Calls" are lives of a record: from an open that is done on, until the next one that takes the record. The marks say of each
 -- place whether the life there was touched.
 
@@ -81,8 +88,8 @@ touchedAfter touched s calls e e' i = when acts s calls e && eqb i (place calls 
 
 -- "In calls where nothing was tightened the whole answers are equal": wherever the event doesn't act on a call that was touched
 pub data WholeAnswers : (ℕ → Bool) → Station → List Call → List Event → List Event → List Outcome → List Outcome → Type 0 where
-  done : {touched : ℕ → Bool} {s : Station} {calls : List Call} → WholeAnswers touched s calls [] [] [] []
-  next : {touched : ℕ → Bool} {s : Station} {calls : List Call} {e e' : Event} {es es' : List Event} {o o' : Outcome} {os os' : List Outcome}
+  over : {touched : ℕ → Bool} {s : Station} {calls : List Call} → WholeAnswers touched s calls [] [] [] []
+  onward : {touched : ℕ → Bool} {s : Station} {calls : List Call} {e e' : Event} {es es' : List Event} {o o' : Outcome} {os os' : List Outcome}
       → (T (not (acts s calls e && touchedBy touched calls e e')) → o' .answer ≡ o .answer)
       → WholeAnswers (touchedAfter touched s calls e e') (o .station) (o .calls) es es' os os'
       → WholeAnswers touched s calls (e ∷ es) (e' ∷ es') (o ∷ os) (o' ∷ os')
@@ -90,3 +97,8 @@ pub data WholeAnswers : (ℕ → Bool) → Station → List Call → List Event 
 -- at first no call was touched
 abbrev pub untouched : ℕ → Bool
 untouched i = false
+
+abbrev pub LivesEqual : Type 0
+LivesEqual =
+    (s : Station) (calls : List Call) (es es' : List Event) → T (sound s calls) → Forall₂ StricterEvent es es'
+    → WholeAnswers untouched s calls es es' (outcomes s calls es) (outcomes s calls es')
