@@ -5,3 +5,5 @@ pub mod KeptIncoming
 pub mod KeptOutgoing
 pub mod Kept
 pub mod Requests
+pub mod Stricter
+pub mod AsStrict

@@ -6,3 +6,4 @@ pub mod State
 pub mod Incoming
 pub mod Outgoing
 pub mod Act
+pub mod Stricter

@@ -1,2 +1,3 @@
 pub mod Least
 pub mod Whole
+pub mod Stricter

@@ -12,3 +12,6 @@ pub mod Endings
 pub mod Kept
 pub mod Clocks
 pub mod Lists
+pub mod Shared
+pub mod Demand3
+pub mod Lives

@@ -4,3 +4,4 @@ pub mod Refusals
 pub mod Step
 pub mod Demand1
 pub mod Demand2
+pub mod Demand3

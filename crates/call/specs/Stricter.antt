@@ -1,0 +1,69 @@
+-- Demand 3, one event and one record: two runs, the second of them stricter. Each relation builds the stricter value from the
+-- other, so that what they share is the same by construction.
+use Prim.Native.Nat.{ℕ, _≤_, _<_}
+use mathlib.Core.Path.{_≡_}
+use mathlib.Core.Logic.{_⊎_}
+use Rattle.event.specs.declared.Event.{Event}
+use Rattle.notice.specs.declared.Dli1.{Dli1}
+use Rattle.notice.specs.declared.History.{History}
+use Rattle.notice.specs.Notice.{noNotice, noNumber, allowed, forbidden}
+use Rattle.notice.specs.Stricter.{ShownOnlyWhere, StricterDli1, StricterHistory}
+use Rattle.call.specs.declared.Call.{Call}
+use Rattle.call.specs.declared.Effect.{Effect}
+use Rattle.call.specs.Fields.{waiting-is, history-is}
+
+-- an event with another option
+abbrev pub option-is : ℕ → Event → Event
+option-is x e = record {
+  kind = e .kind;
+  call = e .call;
+  leg = e .leg;
+  message = e .message;
+  reason = e .reason;
+  option = x;
+  counter = e .counter;
+  flag = e .flag;
+  identifier = e .identifier;
+  first = e .first;
+  second = e .second;
+  third = e .third;
+  time = e .time;
+}
+
+-- an event with another flag
+abbrev pub flag-is : ℕ → Event → Event
+flag-is x e = record {
+  kind = e .kind;
+  call = e .call;
+  leg = e .leg;
+  message = e .message;
+  reason = e .reason;
+  option = e .option;
+  counter = e .counter;
+  flag = x;
+  identifier = e .identifier;
+  first = e .first;
+  second = e .second;
+  third = e .third;
+  time = e .time;
+}
+
+-- "options on received invokes (kinds 12, 13) become stricter or presentation marks (kind 14) turn from allowed to forbidden"
+pub data StricterEvent : Event → Event → Type 0 where
+  same : (e : Event) → StricterEvent e e
+  lower : (e : Event) (option : ℕ) → (e .kind ≡ 12) ⊎ (e .kind ≡ 13) → option < e .option → e .option ≤ 2 → StricterEvent e (option-is option e)
+  hide : (e : Event) → e .kind ≡ 14 → StricterEvent (flag-is allowed e) (flag-is forbidden e)
+
+-- all fields equal but the option that waits with leg 2 and the history's strictest option and marks
+pub data StricterCall : Call → Call → Type 0 where
+  stricter : (c : Call) (waiting : Dli1) (history : History) → StricterDli1 (c .waiting) waiting → StricterHistory (c .history) history
+      → StricterCall c (waiting-is waiting (history-is history c))
+
+-- the same messages with their arguments, the same identifier and counter; a notice or a number only where the other has it
+pub record StricterEffect (x x' : Effect) : Type 0 where
+  pub call : StricterCall (x .call) (x' .call)
+  pub sent : x' .sent ≡ x .sent
+  pub notice : ShownOnlyWhere noNotice (x .notice) (x' .notice)
+  pub number : ShownOnlyWhere noNumber (x .number) (x' .number)
+  pub identifier : x' .identifier ≡ x .identifier
+  pub counter : x' .counter ≡ x .counter
