@@ -4,3 +4,4 @@ pub mod Sorts
 pub mod Through
 pub mod Found
 pub mod Steps
+pub mod Kept

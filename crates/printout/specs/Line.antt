@@ -45,7 +45,7 @@ column none n = when eqb n none then dash else decimal n
 
 -- "Letters, with leg"
 abbrev pub letterWithLeg : Message → List ℕ
-letterWithLeg m = when eqb (m .letter) 0 then [] else m .letter ∷ digit (m .leg) ∷ []
+letterWithLeg m = when eqb (m .letter) 0 then [] else m .letter ∷ decimal (m .leg)
 
 abbrev pub messages : Sent → List ℕ
 messages sent =

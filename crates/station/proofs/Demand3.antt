@@ -24,6 +24,7 @@ use Rattle.station.specs.Station.{emptyAnswer}
 use Rattle.station.specs.Table.{sound, identifierFor, place}
 use Rattle.station.specs.Refusals.{notSound, early, refusalOnSound, refusal}
 use Rattle.station.specs.Step.{Outcome, refused, noneDue, effectAt, settled, done, byNumber, step, outcomes}
+use Rattle.station.proofs.Kept.{step-sound}
 use Rattle.station.specs.Demand3.{StricterAnswer, SameStates, StricterOutcome, RunsStricter, acts}
 use Rattle.station.proofs.Shared.{same-states, at-stricter, place-same, identifier-same, station-same, refusal-same, acts-same}
 
@@ -120,18 +121,16 @@ pub sound-stricter : (s : Station) (t : List Call) → T (sound s t) → Forall�
 unfolding sound
 sound-stricter s t h = table-stricter (s .last) t (search (and-l, and-r))
 
--- "Each done event leaves a sound table."
-module _ (step-sound : (s : Station) (calls : List Call) (e : Event) → T (sound s calls) → T (sound (step s calls e .station) (step s calls e .calls))) where
-  runs-rel : (s : Station) {t t' : List Call} {es es' : List Event} → T (sound s t) → T (sound s t') → Forall₂ StricterCall t t'
-      → Forall₂ StricterEvent es es' → Forall₂ StricterOutcome (outcomes s t es) (outcomes s t' es')
-  unfolding outcomes
-  runs-rel s a b q Forall₂·nil = Forall₂·nil
-  runs-rel s {t} {t'} a b q (Forall₂·cons {a = e} {b = e'} {l₁ = es} {l₂ = es'} p ps) =
-      let w = step-rel s q p a b in
-      let rest : Forall₂ StricterOutcome (outcomes (step s t e .station) (step s t e .calls) es) (outcomes (step s t' e' .station) (step s t' e' .calls) es') =
-      rw (w .station) (runs-rel (step s t e .station) (step-sound s t e a) (rw (w .station) at (step-sound s t' e' b)) (w .calls) ps)
-      in
-      Forall₂·cons (record { answer = w .answer; station = w .station; calls = table-states (w .calls) }) rest
+runs-rel : (s : Station) {t t' : List Call} {es es' : List Event} → T (sound s t) → T (sound s t') → Forall₂ StricterCall t t'
+    → Forall₂ StricterEvent es es' → Forall₂ StricterOutcome (outcomes s t es) (outcomes s t' es')
+unfolding outcomes
+runs-rel s a b q Forall₂·nil = Forall₂·nil
+runs-rel s {t} {t'} a b q (Forall₂·cons {a = e} {b = e'} {l₁ = es} {l₂ = es'} p ps) =
+    let w = step-rel s q p a b in
+    let rest : Forall₂ StricterOutcome (outcomes (step s t e .station) (step s t e .calls) es) (outcomes (step s t' e' .station) (step s t' e' .calls) es') =
+    rw (w .station) (runs-rel (step s t e .station) (step-sound s t e a) (rw (w .station) at (step-sound s t' e' b)) (w .calls) ps)
+    in
+    Forall₂·cons (record { answer = w .answer; station = w .station; calls = table-states (w .calls) }) rest
 
-  pub runs-stricter : RunsStricter
-  runs-stricter s calls es es' h ps = runs-rel s h h (sound-stricter s calls h) ps
+pub runs-stricter : RunsStricter
+runs-stricter s calls es es' h ps = runs-rel s h h (sound-stricter s calls h) ps

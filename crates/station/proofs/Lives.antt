@@ -22,6 +22,7 @@ use Rattle.station.specs.declared.Station.{Station}
 use Rattle.station.specs.Station.{emptyAnswer}
 use Rattle.station.specs.Table.{at, sound, identifierFor, place}
 use Rattle.station.specs.Step.{effectAt, step, outcomes}
+use Rattle.station.proofs.Kept.{step-sound}
 use Rattle.station.specs.Demand3.{tightened, acts, touchedBy, touchedAfter, WholeAnswers, over, onward, untouched, LivesEqual}
 use Rattle.station.proofs.Shared.{place-same, identifier-same, refusal-same, acts-same}
 use Rattle.station.proofs.Demand3.{step-acts, idle-answer, idle-calls, step-rel, sound-stricter}
@@ -92,21 +93,19 @@ module _ (touched : ℕ → Bool) (s : Station) {t t' : List Call} {e e' : Event
         (λ y. acting-record (from-true (acts s t e) y) (from-true (acts s t' e') (same-acts ∙ y)) i (rw y at n))
         (λ o. rw (idle-calls s t e (from-false (acts s t e) o), idle-calls s t' e' (from-false (acts s t' e') (same-acts ∙ o))) (alike i (rw o at n)))
 
--- "Each done event leaves a sound table."
-module _ (step-sound : (s : Station) (calls : List Call) (e : Event) → T (sound s calls) → T (sound (step s calls e .station) (step s calls e .calls))) where
-  lives-rel : (touched : ℕ → Bool) (s : Station) {t t' : List Call} {es es' : List Event} → T (sound s t) → T (sound s t') → Forall₂ StricterCall t t'
-      → Same touched t t' → Forall₂ StricterEvent es es' → WholeAnswers touched s t es es' (outcomes s t es) (outcomes s t' es')
-  unfolding outcomes
-  lives-rel touched s a b q alike Forall₂·nil = over
-  lives-rel touched s {t} {t'} a b q alike (Forall₂·cons {a = e} {b = e'} {l₁ = es} {l₂ = es'} p ps) =
-      let w = step-rel s q p a b in
-      let rest : WholeAnswers (touchedAfter touched s t e e') (step s t e .station) (step s t e .calls) es es'
-      (outcomes (step s t e .station) (step s t e .calls) es) (outcomes (step s t' e' .station) (step s t' e' .calls) es') =
-      rw (w .station)
-      (lives-rel (touchedAfter touched s t e e') (step s t e .station) (step-sound s t e a) (rw (w .station) at (step-sound s t' e' b)) (w .calls)
-      (records-same touched s q p alike a b) ps)
-      in
-      onward (answer-same touched s q p alike a b) rest
+lives-rel : (touched : ℕ → Bool) (s : Station) {t t' : List Call} {es es' : List Event} → T (sound s t) → T (sound s t') → Forall₂ StricterCall t t'
+    → Same touched t t' → Forall₂ StricterEvent es es' → WholeAnswers touched s t es es' (outcomes s t es) (outcomes s t' es')
+unfolding outcomes
+lives-rel touched s a b q alike Forall₂·nil = over
+lives-rel touched s {t} {t'} a b q alike (Forall₂·cons {a = e} {b = e'} {l₁ = es} {l₂ = es'} p ps) =
+    let w = step-rel s q p a b in
+    let rest : WholeAnswers (touchedAfter touched s t e e') (step s t e .station) (step s t e .calls) es es'
+    (outcomes (step s t e .station) (step s t e .calls) es) (outcomes (step s t' e' .station) (step s t' e' .calls) es') =
+    rw (w .station)
+    (lives-rel (touchedAfter touched s t e e') (step s t e .station) (step-sound s t e a) (rw (w .station) at (step-sound s t' e' b)) (w .calls)
+    (records-same touched s q p alike a b) ps)
+    in
+    onward (answer-same touched s q p alike a b) rest
 
-  pub lives-equal : LivesEqual
-  lives-equal s calls es es' h ps = lives-rel untouched s h h (sound-stricter s calls h) (λ i n. refl) ps
+pub lives-equal : LivesEqual
+lives-equal s calls es es' h ps = lives-rel untouched s h h (sound-stricter s calls h) (λ i n. refl) ps
