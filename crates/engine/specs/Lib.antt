@@ -1,2 +1,1 @@
 pub mod Board
-pub mod Run

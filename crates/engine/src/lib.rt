@@ -29,15 +29,6 @@ pub struct Stepped {
     pub board: Board,
 }
 
-// What a run leaves; `cut` is the byte count of a cut last record.
-#[repr(C)]
-pub struct Ran {
-    pub done: u64,
-    pub refused: u64,
-    pub cut: usize,
-    pub board: Board,
-}
-
 fn refused(b: Board, code: u8) -> Stepped
     ensures { λ r. ⌜ r ≡ refusedBoard b code ⌝ }
 {
@@ -93,7 +84,8 @@ fn settled(b: Board, e: Event, i: usize, next: u16, x: Effect) -> Stepped
     }
 }
 
-fn identifier_in(e: Event, held: &[u32; 64], next: u16) -> u16
+// The identifier that the event's request takes, from the column of those held; only a divert asks for one.
+pub fn identifier_in(e: Event, held: &[u32; 64], next: u16) -> u16
     requires { ⌜ length (now held) ≡ 64 ⌝ }
     ensures { λ r. ⌜ r ≡ identifierIn e (now (held .entry)) next ⌝ }
 {
@@ -104,7 +96,8 @@ fn identifier_in(e: Event, held: &[u32; 64], next: u16) -> u16
     }
 }
 
-fn next_with(e: Event, identifier: u16, next: u16) -> u16
+// The next identifier after the event.
+pub fn next_with(e: Event, identifier: u16, next: u16) -> u16
     ensures { λ r. ⌜ r ≡ nextWith e identifier next ⌝ }
 {
     if e.kind == 6 {
