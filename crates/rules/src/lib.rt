@@ -28,9 +28,9 @@ fn ended(c: Call) -> Effect
     ensures { λ r. ⌜ r ≡ ended c ⌝ }
 {
     let free = call::free_call();
-    let first = message::bare(88, 1);
+    let first = message::bare(b'X', 1);
     if c.cdr == 1 {
-        let second = message::bare(88, 2);
+        let second = message::bare(b'X', 2);
         message::sending(free, message::two(first, second))
     } else {
         message::sending(free, message::one(first))
@@ -51,7 +51,7 @@ fn act_outgoing(c: Call, e: Event) -> Effect
 }
 
 // What an event that is taken does to its record, by the groups of kinds; the identifier is the one that a request would
-// take. A sound record's counter is 15 at most.
+// take, and kind 11 is what the ranges leave of 1 to 15. A sound record has a counter of 15 at most.
 pub fn act(c: Call, e: Event, identifier: u16) -> Effect
     requires { ⌜ c .counter < 255 ⌝ }
     ensures { λ r. ⌜ r ≡ act c e identifier ⌝ }
