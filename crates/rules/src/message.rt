@@ -9,6 +9,7 @@ use call::Sent;
 
 // None: notice 0 is reason unknown, and 0 is an identifier. A number or a counter that an answer doesn't have is 0.
 pub const NO_NOTICE: u8 = 255;
+
 pub const NO_IDENTIFIER: u32 = 65536;
 
 // A message that has a letter (its ASCII number) and a leg alone.
