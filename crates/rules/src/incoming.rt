@@ -35,10 +35,10 @@ pub fn opened_incoming(e: Event) -> Call
 }
 
 // "4: Proceeding becomes Received, ALERTING."
-pub fn alerted(c: Call) -> Effect
+fn alerted(c: Call) -> Effect
     ensures { λ r. ⌜ r ≡ alerted c ⌝ }
 {
-    let alerting = message::bare(65, 1);
+    let alerting = message::bare(b'A', 1);
     let sent = message::one(alerting);
     let mut d = c;
     d.basic = 2;
@@ -46,7 +46,7 @@ pub fn alerted(c: Call) -> Effect
 }
 
 // "8: Idle, not granted": a request or grant with all that belongs to it is gone.
-pub fn idle(c: Call) -> Call
+fn idle(c: Call) -> Call
     ensures { λ r. ⌜ r ≡ idle c ⌝ }
 {
     let mut d = c;
@@ -81,7 +81,7 @@ fn answered_in_wait(c: Call, e: Event) -> Effect
 fn answered_plainly(c: Call) -> Effect
     ensures { λ r. ⌜ r ≡ sending (basic-is 3 (idle c)) (one (connectOn 1)) ⌝ }
 {
-    let connect = message::bare(67, 1);
+    let connect = message::bare(b'C', 1);
     let sent = message::one(connect);
     let mut d = idle(c);
     d.basic = 3;
@@ -89,7 +89,7 @@ fn answered_plainly(c: Call) -> Effect
 }
 
 // "5: Proceeding or Received becomes Active, CONNECT"
-pub fn answered(c: Call, e: Event) -> Effect
+fn answered(c: Call, e: Event) -> Effect
     ensures { λ r. ⌜ r ≡ answered c e ⌝ }
 {
     if c.cdf == 1 {
@@ -118,7 +118,7 @@ fn invoke_of(c: Call, e: Event, identifier: u16) -> Message
     ensures { λ r. ⌜ r ≡ invokeOf c e identifier ⌝ }
 {
     let original = original_sent(c);
-    let mut m = message::bare(73, 1);
+    let mut m = message::bare(b'I', 1);
     m.reason = e.reason;
     m.option = e.option;
     m.counter = c.counter + 1;
@@ -142,7 +142,7 @@ fn asking(c: Call, e: Event, identifier: u16) -> Call
 }
 
 // "6: .."
-pub fn diverted(c: Call, e: Event, identifier: u16) -> Effect
+fn diverted(c: Call, e: Event, identifier: u16) -> Effect
     requires { ⌜ c .counter < 255 ⌝ }
     ensures { λ r. ⌜ r ≡ diverted c e identifier ⌝ }
 {
@@ -152,7 +152,7 @@ pub fn diverted(c: Call, e: Event, identifier: u16) -> Effect
     Effect {
         call: d,
         sent: sent,
-        notice: 255,
+        notice: message::NO_NOTICE,
         number: 0,
         identifier: identifier as u32,
         counter: c.counter + 1,
@@ -160,7 +160,7 @@ pub fn diverted(c: Call, e: Event, identifier: u16) -> Effect
 }
 
 // "7: Idle, granted."
-pub fn grant(c: Call) -> Call
+fn grant(c: Call) -> Call
     ensures { λ r. ⌜ r ≡ grant c ⌝ }
 {
     let mut d = c;
@@ -193,7 +193,7 @@ pub fn expired(c: Call) -> Effect
     Effect {
         call: d,
         sent: nothing,
-        notice: 255,
+        notice: message::NO_NOTICE,
         number: 0,
         identifier: identifier,
         counter: 0,

@@ -69,7 +69,8 @@ fn with_dli3(c: Call, e: Event) -> Call
 fn number_for(c: Call, e: Event) -> u16
     ensures { λ r. ⌜ r ≡ numberFor c e ⌝ }
 {
-    if c.cdo == 1 {
+    let cdo = c.cdo;
+    if cdo == 1 {
         let history = c.history;
         history.number_shown(e.flag, e.second)
     } else {
@@ -104,14 +105,14 @@ fn taken_over(c: Call, e: Event) -> Effect
     let number = number_for(moved, e);
     let heard = with_dli3(moved, e);
     let d = after_message(e, heard);
-    let release = message::bare(88, 1);
+    let release = message::bare(b'X', 1);
     let sent = message::one(release);
     Effect {
         call: d,
         sent: sent,
         notice: noticed.notice,
         number: number,
-        identifier: 65536,
+        identifier: message::NO_IDENTIFIER,
         counter: 0,
     }
 }
@@ -128,7 +129,7 @@ fn first_leg_sent(c: Call, e: Event) -> Sent
     ensures { λ r. ⌜ r ≡ (when connect e && invoked c then one (releaseOn 2) else nothing) ⌝ }
 {
     if (e.message == 3) & (c.cdr == 1) {
-        message::one(message::bare(88, 2))
+        message::one(message::bare(b'X', 2))
     } else {
         call::no_messages()
     }
@@ -146,9 +147,9 @@ fn on_first_leg(c: Call, e: Event) -> Effect
     Effect {
         call: d,
         sent: sent,
-        notice: 255,
+        notice: message::NO_NOTICE,
         number: number,
-        identifier: 65536,
+        identifier: message::NO_IDENTIFIER,
         counter: 0,
     }
 }
@@ -166,7 +167,7 @@ fn left_alone(c: Call) -> Effect
         sent: nothing,
         notice: noticed.notice,
         number: 0,
-        identifier: 65536,
+        identifier: message::NO_IDENTIFIER,
         counter: 0,
     }
 }
@@ -175,7 +176,7 @@ fn left_alone(c: Call) -> Effect
 fn leg_failed(c: Call) -> Effect
     ensures { λ r. ⌜ r ≡ sending (cdrIdle c) (one (legFailedOn 1)) ⌝ }
 {
-    let failed = message::bare(70, 1);
+    let failed = message::bare(b'F', 1);
     let sent = message::one(failed);
     let d = cdr_idle(c);
     message::sending(d, sent)

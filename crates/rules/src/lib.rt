@@ -28,9 +28,9 @@ fn ended(c: Call) -> Effect
     ensures { λ r. ⌜ r ≡ ended c ⌝ }
 {
     let free = call::free_call();
-    let first = message::bare(88, 1);
+    let first = message::bare(b'X', 1);
     if c.cdr == 1 {
-        let second = message::bare(88, 2);
+        let second = message::bare(b'X', 2);
         message::sending(free, message::two(first, second))
     } else {
         message::sending(free, message::one(first))

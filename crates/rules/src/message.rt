@@ -7,6 +7,11 @@ use call::Effect;
 use call::Message;
 use call::Sent;
 
+// None: notice 0 is reason unknown, and 0 is an identifier. A number or a counter that an answer doesn't have is 0.
+pub const NO_NOTICE: u8 = 255;
+
+pub const NO_IDENTIFIER: u32 = 65536;
+
 // A message that has a letter (its ASCII number) and a leg alone.
 pub fn bare(letter: u8, leg: u8) -> Message
     ensures { λ r. ⌜ r ≡ bare letter leg ⌝ }
@@ -21,7 +26,7 @@ pub fn bare(letter: u8, leg: u8) -> Message
 pub fn connect_with_dli3(leg: u8, flag: u8, number: u16) -> Message
     ensures { λ r. ⌜ r ≡ connectWithDli3 leg flag number ⌝ }
 {
-    let mut m = bare(68, leg);
+    let mut m = bare(b'D', leg);
     m.flag = flag;
     m.number = number;
     m
@@ -75,9 +80,9 @@ pub fn sending(c: Call, sent: Sent) -> Effect
     Effect {
         call: c,
         sent: sent,
-        notice: 255,
+        notice: NO_NOTICE,
         number: 0,
-        identifier: 65536,
+        identifier: NO_IDENTIFIER,
         counter: 0,
     }
 }

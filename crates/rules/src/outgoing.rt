@@ -47,7 +47,7 @@ pub fn to_cdo(n: Noticed, c: Call) -> Call
 fn setup_on(leg: u8, c: Call, e: Event) -> Message
     ensures { λ r. ⌜ r ≡ setupOn leg c e ⌝ }
 {
-    let mut m = message::bare(83, leg);
+    let mut m = message::bare(b'S', leg);
     m.reason = e.reason;
     m.counter = e.counter;
     m.destination = e.second;
@@ -68,12 +68,12 @@ fn turned_down(c: Call, e: Event) -> Effect
     ensures { λ r. ⌜ r ≡ turnedDown c e ⌝ }
 {
     let identifier = e.identifier as u32;
-    let error = message::echo_on(69, e.leg, e.identifier);
+    let error = message::echo_on(b'E', e.leg, e.identifier);
     let sent = message::one(error);
     Effect {
         call: c,
         sent: sent,
-        notice: 255,
+        notice: message::NO_NOTICE,
         number: 0,
         identifier: identifier,
         counter: 0,
@@ -84,8 +84,8 @@ fn turned_down(c: Call, e: Event) -> Effect
 fn redirected_sent(c: Call, e: Event) -> Sent
     ensures { λ r. ⌜ r ≡ three (resultOn 1 (e .identifier)) (releaseOn 1) (setupOn 1 c e) ⌝ }
 {
-    let result = message::echo_on(82, 1, e.identifier);
-    let release = message::bare(88, 1);
+    let result = message::echo_on(b'R', 1, e.identifier);
+    let release = message::bare(b'X', 1);
     let setup = setup_on(1, c, e);
     message::three(result, release, setup)
 }
@@ -116,7 +116,7 @@ fn redirected(c: Call, e: Event) -> Effect
 fn forwarded_sent(c: Call, e: Event) -> Sent
     ensures { λ r. ⌜ r ≡ two (resultOn 1 (e .identifier)) (setupOn 2 c e) ⌝ }
 {
-    let result = message::echo_on(82, 1, e.identifier);
+    let result = message::echo_on(b'R', 1, e.identifier);
     let setup = setup_on(2, c, e);
     message::two(result, setup)
 }
@@ -134,7 +134,7 @@ fn forwarded(c: Call, e: Event) -> Effect
     Effect {
         call: d,
         sent: sent,
-        notice: 255,
+        notice: message::NO_NOTICE,
         number: 0,
         identifier: identifier,
         counter: e.counter,
@@ -168,7 +168,7 @@ pub fn informed(c: Call, e: Event) -> Effect
         sent: nothing,
         notice: noticed.notice,
         number: 0,
-        identifier: 65536,
+        identifier: message::NO_IDENTIFIER,
         counter: 0,
     }
 }

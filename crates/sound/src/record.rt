@@ -136,9 +136,9 @@ fn excludes(c: Call) -> bool
 {
     let requested = c.cds == 1;
     let granted = c.granted == 1;
-    let busy = requested | granted;
+    let held = requested | granted;
     let fit = fits(c.reason, c);
-    !(requested & granted) & (!busy | !(c.basic == 3)) & (!busy | fit)
+    !(requested & granted) & (!held | !(c.basic == 3)) & (!held | fit)
 }
 
 fn wait_holds(c: Call) -> bool

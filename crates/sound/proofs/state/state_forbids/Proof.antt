@@ -6,7 +6,7 @@ use Rattle.sound.proofs.Groups.{incoming, far-end, no-incoming, past-in
 use Rattle.sound.proofs.state.state_forbids.Statement.{statement}
 use Rattle.sound.proofs.state.state_forbids.Tie as tie
 
--- the kinds 0 to 3
+-- 1 to 3
 returns : tie.Need-returns
 unfolding stateForbids
 returns c = let e = c .before .before .before .args .e in simp (no-incoming e (omega arith), no-outgoing e (omega arith))
@@ -21,6 +21,7 @@ returns-3 : tie.Need-returns-3
 unfolding stateForbids
 returns-3 c = let e = c .before .before .before .before .before .before .before .args .e in simp (past-incoming e (omega arith) (λ q. omega arith), outgoing e (omega arith) (omega arith)) (c .outgoing-forbids .ensures)
 
+-- 0
 returns-4 : tie.Need-returns-4
 unfolding stateForbids
 returns-4 c = let e = c .before .before .args .e in simp (no-incoming e (omega arith), no-outgoing e (omega arith))
