@@ -2,3 +2,4 @@ pub mod Bools
 pub mod Ways
 pub mod Walks
 pub mod Pointwise
+pub mod Determined
