@@ -4,7 +4,6 @@ use std::path::Path;
 use std::process::Command;
 
 fn main() {
-    let c = Path::new("../c");
     let archive = std::env::var("WHIPSAIL_LIB")
         .unwrap_or_else(|_| "../../target/staticlib/libwhipsail.a".to_string());
     println!("cargo:rerun-if-env-changed=WHIPSAIL_LIB");
@@ -21,8 +20,8 @@ fn main() {
         "{archive} is missing: `rt staticlib whipsail` makes it"
     );
     let out = std::env::var("OUT_DIR").expect("cargo names a folder");
-    let built = Command::new(c.join("build"))
-        .args([&out, "serve", "nine"])
+    let built = Command::new("../c/build")
+        .args([&out, "../c/serve.c", "../c/nine.c"])
         .status()
         .expect("host/c/build runs");
     assert!(built.success(), "host/c/build failed");
