@@ -1,0 +1,94 @@
+// What a host links: the engine under plain names, by the C calling convention. Every board and event may be handed in.
+ghost use mathlib.Core.Path.{_≡_};
+ghost use Prim.Native.Nat.{ℕ};
+ghost use Rattle.event.specs.WellMade.{wellMade};
+ghost use Rattle.station.specs.Station.{freshOf, shortForm};
+ghost use Rattle.engine.specs.Board.{stepBoard};
+ghost use Rattle.whipsail.specs.Read.{notRead, readAt};
+use engine::Board;
+use engine::Stepped;
+use event::Event;
+use station::Made;
+use station::Station;
+
+// The event at a place among bytes; `whole` is 1, or 0 where fewer than 24 bytes are left: then no event is read (all 0).
+#[repr(C)]
+pub struct Read {
+    pub whole: u8,
+    pub event: Event,
+}
+
+// A station of this limit, or the answer 3.
+#[no_mangle]
+pub extern "C" fn whipsail_fresh(limit: u8) -> Made
+    ensures { λ r. ⌜ r ≡ freshOf limit ⌝ }
+{
+    station::fresh(limit)
+}
+
+// A station of limit 15.
+#[no_mangle]
+pub extern "C" fn whipsail_fresh_short() -> Station
+    ensures { λ r. ⌜ r ≡ shortForm ⌝ }
+{
+    station::fresh_short()
+}
+
+fn no_event() -> Read
+    ensures { λ r. ⌜ r ≡ notRead ⌝ }
+{
+    let event = Event {
+        kind: 0,
+        call: 0,
+        leg: 0,
+        message: 0,
+        reason: 0,
+        option: 0,
+        counter: 0,
+        flag: 0,
+        identifier: 0,
+        first: 0,
+        second: 0,
+        third: 0,
+        time: 0,
+    };
+    Read {
+        whole: 0,
+        event: event,
+    }
+}
+
+// The event whose 24 bytes start at i.
+#[no_mangle]
+pub extern "C" fn whipsail_event_at(bytes: &[u8], i: usize) -> Read
+    ensures { λ r. ⌜ r ≡ readAt (now (bytes .entry)) i ⌝ }
+{
+    let n = bytes.len();
+    if n < 24 {
+        return no_event();
+    }
+    if n - 24 < i {
+        return no_event();
+    }
+    let event = event::event_at(bytes, i);
+    Read {
+        whole: 1,
+        event: event,
+    }
+}
+
+// Whether the event passes the test behind number 3.
+#[no_mangle]
+pub extern "C" fn whipsail_well_made(e: Event) -> bool
+    ensures { λ r. ⌜ r ≡ wellMade e ⌝ }
+{
+    event::well_made(e)
+}
+
+// One event.
+#[no_mangle]
+pub extern "C" fn whipsail_step(b: Board, e: Event) -> Stepped
+    ensures { λ r. ⌜ r ≡ stepBoard b e ⌝ }
+{
+    engine::step(b, e)
+}

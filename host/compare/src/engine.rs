@@ -1,0 +1,113 @@
+//! The library, behind the C program that serves it (`host/c/serve.c`).
+
+use crate::memory::{self, Reader};
+use crate::wire::{Board, Stepped};
+use model::{Event, Station};
+use std::io::{Read, Write};
+use std::path::{Path, PathBuf};
+use std::process::{Child, ChildStdin, ChildStdout, Command, Stdio};
+
+/// Where a C program stands that was built with this crate.
+pub fn program(name: &str) -> PathBuf {
+    Path::new(env!("OUT_DIR")).join(name)
+}
+
+/// A running server; it ends when this is dropped.
+pub struct Engine {
+    child: Child,
+    requests: Option<ChildStdin>,
+    replies: ChildStdout,
+}
+
+impl Engine {
+    pub fn start() -> Engine {
+        let run = Path::new(env!("CARGO_MANIFEST_DIR")).join("../c/run");
+        let mut child = Command::new(run)
+            .arg(program("serve"))
+            .stdin(Stdio::piped())
+            .stdout(Stdio::piped())
+            .spawn()
+            .expect("host/c/run starts the server");
+        let requests = child.stdin.take();
+        let replies = child.stdout.take().expect("a pipe");
+        Engine {
+            child,
+            requests,
+            replies,
+        }
+    }
+
+    /// Sends the commands, and hands back that many bytes of reply. The server
+    /// reads a request to its end before it replies, so neither waits for the
+    /// other in vain.
+    fn ask(&mut self, commands: &[u8], reply: usize) -> Vec<u8> {
+        let requests = self.requests.as_mut().expect("open until dropped");
+        let length = u32::try_from(commands.len()).expect("a short request");
+        let mut bytes = vec![0; reply];
+        requests
+            .write_all(&length.to_le_bytes())
+            .and_then(|()| requests.write_all(commands))
+            .and_then(|()| requests.flush())
+            .and_then(|()| self.replies.read_exact(&mut bytes))
+            .expect("the server answers");
+        bytes
+    }
+
+    /// Each event with the board that it meets; with none it meets the board
+    /// that the one before has left.
+    pub fn steps<'a>(
+        &mut self,
+        cases: impl Iterator<Item = (Option<&'a Board>, &'a Event)>,
+    ) -> Vec<Stepped> {
+        let mut commands = Vec::new();
+        let mut count = 0;
+        for (board, event) in cases {
+            if let Some(board) = board {
+                commands.push(b'B');
+                memory::put_board(&mut commands, board);
+            }
+            commands.push(b'E');
+            memory::put_event(&mut commands, event);
+            count += 1;
+        }
+        let reply = self.ask(&commands, count * memory::STEPPED);
+        reply
+            .chunks_exact(memory::STEPPED)
+            .map(|bytes| Reader(bytes).stepped())
+            .collect()
+    }
+
+    pub fn fresh(&mut self, limit: u8) -> (u8, Station) {
+        Reader(&self.ask(&[b'F', limit], memory::MADE)).made()
+    }
+
+    pub fn fresh_short(&mut self) -> Station {
+        Reader(&self.ask(b"S", memory::STATION)).station()
+    }
+
+    pub fn well_made(&mut self, events: &[Event]) -> Vec<u8> {
+        let mut commands = Vec::new();
+        for event in events {
+            commands.push(b'W');
+            memory::put_event(&mut commands, event);
+        }
+        self.ask(&commands, events.len())
+    }
+
+    /// The event at a place among bytes, and whether it is whole.
+    pub fn event_at(&mut self, bytes: &[u8], place: u64) -> (u8, Event) {
+        let mut commands = vec![b'R'];
+        commands.extend((bytes.len() as u64).to_le_bytes());
+        commands.extend(place.to_le_bytes());
+        commands.extend(bytes);
+        Reader(&self.ask(&commands, memory::READ)).read()
+    }
+}
+
+impl Drop for Engine {
+    fn drop(&mut self) {
+        // An end of input ends the server.
+        self.requests = None;
+        let _ = self.child.wait();
+    }
+}

@@ -1,0 +1,13 @@
+//! Runs the proved engine and the model side by side, event by event, and
+//! compares all that an event leaves: every field of the answer, of every
+//! record, of the station, and the part of the array that is not lent.
+#![forbid(unsafe_code)]
+
+pub mod check;
+pub mod engine;
+pub mod hostile;
+pub mod memory;
+pub mod wire;
+
+pub use engine::Engine;
+pub use wire::{Board, Stepped};

@@ -1,0 +1,212 @@
+//! How the library's structs lie in memory (`whipsail.h`), little-endian.
+
+use crate::wire::{Answer, Board, Message, Stepped};
+use model::codes::MOST_RECORDS;
+use model::{Event, Record, Station};
+
+/// Sizes of the structs in bytes.
+pub const EVENT: usize = 24;
+pub const STATION: usize = 16;
+pub const CALL: usize = 40;
+pub const BOARD: usize = 2584;
+pub const STEPPED: usize = 2648;
+pub const MADE: usize = 24;
+pub const READ: usize = 32;
+
+/// Stands in padding, which nobody may read.
+const PADDING: u8 = 0xEE;
+
+fn twos(out: &mut Vec<u8>, values: &[u16]) {
+    out.extend(values.iter().flat_map(|value| value.to_le_bytes()));
+}
+
+pub fn put_event(out: &mut Vec<u8>, e: &Event) {
+    out.extend([e.kind, e.call, e.leg, e.message]);
+    out.extend([e.reason, e.option, e.counter, e.flag]);
+    twos(out, &[e.identifier, e.first, e.second, e.third]);
+    out.extend(e.time.to_le_bytes());
+}
+
+fn put_call(out: &mut Vec<u8>, r: &Record) {
+    out.extend([r.direction, r.basic, r.cdo, r.cdr]);
+    out.extend([r.cds, r.cdf, r.granted, r.counter]);
+    twos(out, &[r.leg1]);
+    out.extend([r.waiting_reason, r.waiting_option]);
+    twos(out, &[r.leg2]);
+    out.extend([r.seen, r.strictest, r.forbidden, r.shown]);
+    twos(out, &[r.nominated]);
+    twos(out, &[r.own, r.diverting, r.original, r.identifier]);
+    out.extend([r.reason, PADDING, PADDING, PADDING]);
+    out.extend(r.start.to_le_bytes());
+}
+
+pub fn put_board(out: &mut Vec<u8>, b: &Board) {
+    let before = out.len();
+    out.extend(b.station.last_time.to_le_bytes());
+    twos(out, &[b.station.next_identifier]);
+    out.extend([b.station.limit, PADDING, PADDING, PADDING, PADDING, PADDING]);
+    out.extend(b.len.to_le_bytes());
+    b.calls.iter().for_each(|call| put_call(out, call));
+    assert_eq!(out.len() - before, BOARD);
+}
+
+/// Reads structs from their bytes.
+pub struct Reader<'a>(pub &'a [u8]);
+
+impl Reader<'_> {
+    fn take<const N: usize>(&mut self) -> [u8; N] {
+        let (taken, rest) = self.0.split_first_chunk().expect("a whole struct");
+        self.0 = rest;
+        *taken
+    }
+
+    fn skip(&mut self, count: usize) {
+        self.0 = &self.0[count..];
+    }
+
+    fn one(&mut self) -> u8 {
+        u8::from_le_bytes(self.take())
+    }
+
+    fn two(&mut self) -> u16 {
+        u16::from_le_bytes(self.take())
+    }
+
+    fn four(&mut self) -> u32 {
+        u32::from_le_bytes(self.take())
+    }
+
+    fn eight(&mut self) -> u64 {
+        u64::from_le_bytes(self.take())
+    }
+
+    pub fn event(&mut self) -> Event {
+        let [kind, call, leg, message, reason, option, counter, flag] = self.take();
+        Event {
+            kind,
+            call,
+            leg,
+            message,
+            reason,
+            option,
+            counter,
+            flag,
+            identifier: self.two(),
+            first: self.two(),
+            second: self.two(),
+            third: self.two(),
+            time: self.eight(),
+        }
+    }
+
+    pub fn station(&mut self) -> Station {
+        let station = Station {
+            last_time: self.eight(),
+            next_identifier: self.two(),
+            limit: self.one(),
+        };
+        self.skip(5);
+        station
+    }
+
+    /// The answer's number and the station.
+    pub fn made(&mut self) -> (u8, Station) {
+        let code = self.one();
+        self.skip(7);
+        (code, self.station())
+    }
+
+    /// Whether a record was whole, and its event.
+    pub fn read(&mut self) -> (u8, Event) {
+        let whole = self.one();
+        self.skip(7);
+        (whole, self.event())
+    }
+
+    fn call(&mut self) -> Record {
+        let [direction, basic, cdo, cdr, cds, cdf, granted, counter] = self.take();
+        let leg1 = self.two();
+        let [waiting_reason, waiting_option] = self.take();
+        let leg2 = self.two();
+        let [seen, strictest, forbidden, shown] = self.take();
+        let [nominated, own, diverting, original, identifier] = [(); 5].map(|()| self.two());
+        let [reason, ..]: [u8; 4] = self.take();
+        Record {
+            direction,
+            basic,
+            cdo,
+            cdr,
+            leg1,
+            leg2,
+            waiting_option,
+            waiting_reason,
+            seen,
+            strictest,
+            forbidden,
+            shown,
+            nominated,
+            cds,
+            cdf,
+            own,
+            counter,
+            diverting,
+            original,
+            reason,
+            identifier,
+            start: self.eight(),
+            granted,
+        }
+    }
+
+    fn message(&mut self) -> Message {
+        let [letter, leg, reason, option, counter, flag] = self.take();
+        let [identifier, destination, diverting, original, number] = [(); 5].map(|()| self.two());
+        Message {
+            letter,
+            leg,
+            reason,
+            option,
+            counter,
+            flag,
+            identifier,
+            destination,
+            diverting,
+            original,
+            number,
+        }
+    }
+
+    fn answer(&mut self) -> Answer {
+        let [code, call] = self.take();
+        let sent = [(); 3].map(|()| self.message());
+        let notice = self.one();
+        self.skip(1);
+        let number = self.two();
+        self.skip(2);
+        let identifier = self.four();
+        let counter = self.one();
+        self.skip(3);
+        Answer {
+            code,
+            call,
+            sent,
+            notice,
+            number,
+            identifier,
+            counter,
+        }
+    }
+
+    pub fn stepped(&mut self) -> Stepped {
+        let answer = self.answer();
+        let station = self.station();
+        let len = self.eight();
+        let calls = [(); MOST_RECORDS].map(|()| self.call());
+        let board = Board {
+            station,
+            len,
+            calls,
+        };
+        Stepped { answer, board }
+    }
+}

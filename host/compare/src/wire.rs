@@ -1,0 +1,119 @@
+//! What the library takes and hands back, and what the model's values are in
+//! it. Stations, events and records are the model's own.
+
+use model::codes::MOST_RECORDS;
+use model::{Record, Station};
+
+/// The station, the lent length and the array of which the first are lent.
+#[derive(Clone, Debug, PartialEq, Eq)]
+pub struct Board {
+    pub station: Station,
+    pub len: u64,
+    pub calls: [Record; MOST_RECORDS],
+}
+
+/// A message as the library hands it over; the letter of none is 0.
+#[derive(Clone, Copy, Debug, Default, PartialEq, Eq)]
+pub struct Message {
+    pub letter: u8,
+    pub leg: u8,
+    pub reason: u8,
+    pub option: u8,
+    pub counter: u8,
+    pub flag: u8,
+    pub identifier: u16,
+    pub destination: u16,
+    pub diverting: u16,
+    pub original: u16,
+    pub number: u16,
+}
+
+/// An answer as the library hands it over, with its own values for none.
+#[derive(Clone, Copy, Debug, PartialEq, Eq)]
+pub struct Answer {
+    pub code: u8,
+    pub call: u8,
+    pub sent: [Message; 3],
+    pub notice: u8,
+    pub number: u16,
+    pub identifier: u32,
+    pub counter: u8,
+}
+
+#[derive(Clone, Debug, PartialEq, Eq)]
+pub struct Stepped {
+    pub answer: Answer,
+    pub board: Board,
+}
+
+impl Board {
+    /// "starts with 64 free records and a fresh station of limit 15"
+    pub fn panel() -> Board {
+        Board {
+            station: Station::short(),
+            len: MOST_RECORDS as u64,
+            calls: [Record::default(); MOST_RECORDS],
+        }
+    }
+
+    /// A table, and what stands in the rest of the array. Of a table that is
+    /// too long the first records are held.
+    pub fn of(table: &[Record], station: Station, rest: [Record; MOST_RECORDS]) -> Board {
+        let mut calls = rest;
+        let held = table.len().min(MOST_RECORDS);
+        calls[..held].copy_from_slice(&table[..held]);
+        Board {
+            station,
+            len: table.len() as u64,
+            calls,
+        }
+    }
+
+    /// The table that is lent. Too long a length lends one record too many:
+    /// the model refuses that as it would refuse more.
+    pub fn lent(&self) -> Vec<Record> {
+        match usize::try_from(self.len) {
+            Ok(len) if len <= MOST_RECORDS => self.calls[..len].to_vec(),
+            _ => [&self.calls[..], &[Record::default()]].concat(),
+        }
+    }
+
+    /// The board with this table in the place of the one that is lent.
+    pub fn with(&self, table: &[Record], station: Station) -> Board {
+        Board {
+            len: self.len,
+            ..Board::of(table, station, self.calls)
+        }
+    }
+}
+
+impl From<&model::Answer> for Answer {
+    fn from(answer: &model::Answer) -> Answer {
+        let mut sent = [Message::default(); 3];
+        assert!(answer.messages.len() <= sent.len());
+        for (place, message) in sent.iter_mut().zip(&answer.messages) {
+            *place = Message {
+                letter: message.letter as u8,
+                leg: message.leg,
+                reason: message.reason,
+                option: message.option,
+                counter: message.counter,
+                flag: message.flag,
+                identifier: message.identifier,
+                destination: message.destination,
+                diverting: message.diverting,
+                original: message.original,
+                number: message.own,
+            };
+        }
+        Answer {
+            code: answer.code,
+            call: answer.call.unwrap_or(255),
+            sent,
+            notice: answer.notice.unwrap_or(255),
+            number: answer.number.unwrap_or(0),
+            identifier: answer.identifier.map_or(65_536, u32::from),
+            counter: answer.counter.unwrap_or(0),
+        }
+    }
+}

@@ -1,0 +1,120 @@
+//! The comparison can fail: against a wrong model it finds a difference, and
+//! says it in a short list.
+#![forbid(unsafe_code)]
+
+use compare::check::{Comparison, Reference};
+use compare::{hostile, Board};
+use model::codes::*;
+use model::profile::Profile;
+use model::random::Random;
+use model::{step, Answer, Event, Record, Station};
+
+/// The text of the events in a report.
+fn events(said: &str) -> Vec<&str> {
+    said.lines()
+        .skip(1)
+        .filter(|line| !line.starts_with('#'))
+        .take_while(|line| !line.starts_with("at event"))
+        .collect()
+}
+
+/// Runs the profile until the difference is found; the report has at most
+/// that many events.
+fn found(profile: Profile, wrong: &Reference, most: usize) -> String {
+    let said = Comparison::new(wrong)
+        .walk(profile, 1, &Board::panel(), 50_000)
+        .expect_err("a wrong model is found");
+    let count = events(&said).len();
+    assert!((1..=most).contains(&count), "{said}");
+    said
+}
+
+#[test]
+fn a_lower_limit() {
+    let said = found(
+        Profile::Mixed,
+        &|table: &mut [Record], station: &mut Station, event: &Event| {
+            let limit = station.limit;
+            station.limit = limit - 1;
+            let answer = step(table, station, event);
+            station.limit = limit;
+            answer
+        },
+        2,
+    );
+    assert!(said.contains("counter 14"), "{said}");
+    assert!(events(&said)[1].starts_with("divert call 0"), "{said}");
+}
+
+#[test]
+fn a_later_clock() {
+    let said = found(
+        Profile::Clock,
+        &|table: &mut [Record], station: &mut Station, event: &Event| {
+            if event.kind != CLOCK || event.time <= station.last_time {
+                return step(table, station, event);
+            }
+            let early = Event {
+                time: event.time - 1,
+                ..*event
+            };
+            let answer = step(table, station, &early);
+            if answer.code == 0 {
+                station.last_time = event.time;
+            }
+            answer
+        },
+        3,
+    );
+    assert!(events(&said)[2].starts_with("clock at"), "{said}");
+}
+
+#[test]
+fn one_argument_of_one_message() {
+    let wrong = |table: &mut [Record], station: &mut Station, event: &Event| {
+        let mut answer: Answer = step(table, station, event);
+        for message in &mut answer.messages {
+            if message.letter == 'S' {
+                message.diverting = message.destination;
+            }
+        }
+        answer
+    };
+    let said = found(Profile::Deep, &wrong, 3);
+    assert!(said.contains("reroute call 0"), "{said}");
+}
+
+#[test]
+fn one_field_of_one_record() {
+    let wrong = |table: &mut [Record], station: &mut Station, event: &Event| {
+        let answer = step(table, station, event);
+        if let (Some(at), USER_ANSWERS) = (answer.call, event.kind) {
+            table[usize::from(at)].cdf = CDF_NONE;
+        }
+        answer
+    };
+    let said = found(Profile::Deep, &wrong, 2);
+    assert!(said.contains("answer call 0"), "{said}");
+}
+
+#[test]
+fn one_sentence_of_soundness() {
+    let wrong = |table: &mut [Record], station: &mut Station, event: &Event| {
+        // Takes any T1 start.
+        let last = station.last_time;
+        station.last_time = u64::MAX;
+        let sound = model::sound::lent_sound(table, station);
+        station.last_time = last;
+        if sound && event.time < last {
+            return Answer::refused(2);
+        }
+        step(table, station, event)
+    };
+    let comparison = Comparison::new(&wrong);
+    let mut random = Random::new(3);
+    let cases: Vec<_> = (0..50_000).map(|_| hostile::case(&mut random)).collect();
+    let said = comparison.cases(&cases).expect_err("it is found");
+    assert_eq!(events(&said).len(), 1, "{said}");
+    let records = said.lines().filter(|line| line.contains("Record {"));
+    assert_eq!(records.count(), 1, "{said}");
+}

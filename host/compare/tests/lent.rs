@@ -1,0 +1,40 @@
+//! Single events on lent tables, sound or not, with any station.
+#![forbid(unsafe_code)]
+
+use compare::check::{Comparison, Counts};
+use compare::{hostile, Board};
+use model::random::Random;
+use model::{lent, step, Event};
+
+const ROUNDS: u64 = 50;
+const CASES: usize = 4_000;
+
+fn run(name: &str, case: impl Fn(&mut Random) -> (Board, Event)) {
+    let comparison = Comparison::new(&step);
+    let mut counts = Counts::default();
+    for seed in 0..ROUNDS {
+        let mut random = Random::new(seed);
+        let cases: Vec<_> = (0..CASES).map(|_| case(&mut random)).collect();
+        match comparison.cases(&cases) {
+            Ok(more) => counts.add(more),
+            Err(said) => panic!("seed {seed}: {said}"),
+        }
+    }
+    println!("{name}: {counts:?}");
+    assert!(counts.total() >= 200_000);
+    assert!(counts.0.iter().all(|&count| count > 100), "{counts:?}");
+}
+
+#[test]
+fn sound_or_damaged() {
+    run("lent", |random| {
+        let case = lent::case(random);
+        let rest = hostile::any_rest(random);
+        (Board::of(&case.table, case.station, rest), case.event)
+    });
+}
+
+#[test]
+fn any_value_in_every_field() {
+    run("any", hostile::case);
+}
