@@ -7,13 +7,13 @@
 
 enum { PAINTED = 256 * 1024, PAINT = 0xA5 };
 
-static volatile uint8_t *lowest;
+static uintptr_t lowest;
 
 __attribute__((noinline)) static void paint(void) {
     volatile uint8_t area[PAINTED];
     for (size_t i = 0; i < PAINTED; i++)
         area[i] = PAINT;
-    lowest = area;
+    lowest = (uintptr_t)area;
 }
 
 /* Has nothing in its frame but the arguments of the call and its result. */
@@ -35,10 +35,10 @@ int main(void) {
         whipsail_event event = whipsail_event_at(bytes, sizeof bytes, 0).event;
         paint();
         uintptr_t frame = step(&board, &event, &stepped);
-        volatile uint8_t *touched = lowest;
+        volatile uint8_t *touched = (volatile uint8_t *)lowest;
         while (*touched == PAINT)
             touched++;
-        if (touched == lowest) {
+        if ((uintptr_t)touched == lowest) {
             printf("deeper than %d bytes\n", PAINTED);
             return 1;
         }

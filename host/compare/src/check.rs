@@ -17,6 +17,14 @@ pub type Reference = dyn Fn(&mut [Record], &mut Station, &Event) -> model::Answe
 /// Events that are sent to the engine at once.
 const CHUNK: usize = 500;
 
+/// The first seed of a test: `COMPARE_SEED`, or 0.
+pub fn first_seed() -> u64 {
+    match std::env::var("COMPARE_SEED") {
+        Ok(word) => word.parse().expect("COMPARE_SEED is a number"),
+        Err(_) => 0,
+    }
+}
+
 /// How many events were compared, by the number of their answer.
 #[derive(Clone, Copy, Debug, Default)]
 pub struct Counts(pub [u64; 9]);
@@ -69,22 +77,39 @@ impl Comparison<'_> {
         }
     }
 
-    /// The first difference over a list of events, each side going on from
-    /// what it has left itself.
-    fn over_list(&self, start: &Board, events: &[Event]) -> Option<Difference> {
-        let mut board = start.clone();
-        let mut expected = Vec::new();
-        for event in events {
-            let stepped = self.expect(&board, event);
-            board = stepped.board.clone();
-            expected.push(stepped);
-        }
-        let boards = std::iter::once(Some(start)).chain(std::iter::repeat(None));
+    /// Sends events to the engine and looks for a difference. The first one
+    /// meets the start, or with none what the engine itself has left.
+    fn meet(
+        &self,
+        start: Option<&Board>,
+        events: &[Event],
+        expected: Vec<Stepped>,
+    ) -> Option<Difference> {
+        let boards = std::iter::once(start).chain(std::iter::repeat(None));
         let found = self.engine.borrow_mut().steps(boards.zip(events));
         first_difference(expected, found)
     }
 
-    /// A walk of a profile from a board: the engine's own, from its start.
+    /// The first difference over a list of events, each side going on from
+    /// what it has left itself.
+    fn over_list(&self, start: &Board, events: &[Event]) -> Option<Difference> {
+        let mut board = start.clone();
+        for (i, chunk) in events.chunks(CHUNK).enumerate() {
+            let mut expected: Vec<Stepped> = Vec::new();
+            for event in chunk {
+                expected.push(self.expect(&board, event));
+                board = expected[expected.len() - 1].board.clone();
+            }
+            let start = (i == 0).then_some(start);
+            if let Some(difference) = self.meet(start, chunk, expected) {
+                let at = i * CHUNK + difference.at;
+                return Some(Difference { at, ..difference });
+            }
+        }
+        None
+    }
+
+    /// A walk of a profile from a board, as `over_list` while it is made.
     pub fn walk(
         &self,
         profile: Profile,
@@ -95,30 +120,24 @@ impl Comparison<'_> {
         let mut walk = Walk::over(profile, seed, start.lent(), start.station);
         let mut played: Vec<Event> = Vec::new();
         let mut counts = Counts::default();
-        let mut board = start.clone();
         while played.len() < count {
-            let mut events = Vec::new();
+            let before = played.len();
             let mut expected = Vec::new();
-            for _ in 0..CHUNK.min(count - played.len()) {
+            for _ in before..count.min(before + CHUNK) {
                 let event = walk.propose();
                 let answer = (self.reference)(&mut walk.table, &mut walk.station, &event);
-                events.push(event);
-                expected.push(Stepped {
-                    answer: Answer::from(&answer),
-                    board: start.with(&walk.table, walk.station),
-                });
+                let answer = Answer::from(&answer);
+                let board = start.with(&walk.table, walk.station);
+                counts.count(&answer);
+                played.push(event);
+                expected.push(Stepped { answer, board });
             }
-            let boards = std::iter::once(Some(&board)).chain(std::iter::repeat(None));
-            let found = self.engine.borrow_mut().steps(boards.zip(&events));
-            expected.iter().for_each(|e| counts.count(&e.answer));
-            played.extend(&events);
-            let last = found.last().map(|stepped| stepped.board.clone());
-            if let Some(difference) = first_difference(expected, found) {
-                let cut = played.len() - events.len() + difference.at + 1;
+            let first = (before == 0).then_some(start);
+            if let Some(difference) = self.meet(first, &played[before..], expected) {
                 let name = format!("{} of seed {seed}", profile.name());
+                let cut = before + difference.at + 1;
                 return Err(self.report_list(&name, start, &played[..cut]));
             }
-            board = last.unwrap_or(board);
         }
         Ok(counts)
     }

@@ -1,7 +1,7 @@
 //! Every profile of the model, from the panel's start and over lent starts.
 #![forbid(unsafe_code)]
 
-use compare::check::{Comparison, Counts};
+use compare::check::{first_seed, Comparison, Counts};
 use compare::{hostile, Board};
 use model::profile::{self, Profile};
 use model::random::Random;
@@ -25,11 +25,12 @@ fn run(profile: Profile) {
         Ok(more) => counts.add(more),
         Err(said) => panic!("{said}"),
     };
-    for seed in 0..LISTS {
+    let first = first_seed();
+    for seed in first..first + LISTS {
         follow(seed, &Board::panel(), LENGTH);
     }
-    follow(LISTS, &Board::panel(), LONG);
-    for seed in 0..LENT_LISTS {
+    follow(first + LISTS, &Board::panel(), LONG);
+    for seed in first..first + LENT_LISTS {
         let mut random = Random::new(seed);
         let (table, station) = lent::sound_start(&mut random);
         let start = Board::of(&table, station, hostile::any_rest(&mut random));
