@@ -9,3 +9,4 @@ pub mod Stricter
 pub mod AsStrict
 pub mod Heard
 pub mod Told
+pub mod Recalled
