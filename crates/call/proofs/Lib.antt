@@ -10,3 +10,4 @@ pub mod AsStrict
 pub mod Heard
 pub mod Told
 pub mod Recalled
+pub mod Waits

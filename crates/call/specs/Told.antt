@@ -1,20 +1,24 @@
 -- Which DLI1 and DLI3 an event brings to the CDO, and what the caller learns of them by the list of those that the call took
--- account of. The list has the latest first, as in notice's specs/Whole. The theorem is in proofs/Told.
-use Prim.Native.Nat.{ℕ}
+-- account of. The list has the latest first, as in notice's specs/Whole. The theorems are in proofs/Told and Waits.
+use Prim.Native.Nat.{ℕ, _≤_}
 use mathlib.Core.Path.{_≡_}
 use mathlib.Core.Bool.{Bool, false, _&&_, _||_, not}
 use mathlib.Core.List.{List, [], _∷_, _++_}
 use lib.Dec.{T, eqb}
+use lib.ListN.{length}
 use Rattle.ground.specs.Choice.{when_then_else_}
 use Rattle.event.specs.declared.Event.{Event}
 use Rattle.event.specs.Kinds.{cfu, cfb, alerting, connect, releaseComplete, onLeg2, opens}
+use Rattle.event.specs.WellMade.{wellMade}
+use Rattle.notice.specs.declared.Dli1.{Dli1}
 use Rattle.notice.specs.declared.History.{History}
 use Rattle.notice.specs.Notice.{noNotice, noNumber, allowed, forbidden}
-use Rattle.notice.specs.Whole.{may, mayNot, Told, dli1, dli3, diverted, counted, optionsOk, lastNominated, shows, numberFor, notZero, notices, historyOf}
+use Rattle.notice.specs.Whole.{may, mayNot, Told, dli1, dli3, optionsOf, marksOf, diverted, counted, optionsOk, lastNominated, shows, numberFor, notZero, notices, historyOf}
 use Rattle.call.specs.declared.Call.{Call}
 use Rattle.call.specs.declared.Effect.{Effect}
 use Rattle.call.specs.Record.{isFree, divert, invoked}
 use Rattle.call.specs.Outgoing.{dli1Of, turnsDown}
+use Rattle.call.specs.Act.{act}
 
 -- "flag 0 no DLI3, 1 DLI3 allowed, 2 DLI3 forbidden; second: its number or 0"
 abbrev pub dli3Of : ℕ → ℕ → List Told
@@ -56,11 +60,28 @@ tells c e =
     when eqb (e .kind) 14 then messageTells c e else
     []
 
+-- "DLI1 .. , then a DLI3": at most one of each
+pub record Once (new : List Told) : Type 0 where
+  pub dli1s : length (optionsOf new) ≤ 1
+  pub dli3s : length (marksOf new) ≤ 1
+
+abbrev pub TellsOnce : Type 0
+TellsOnce = (c : Call) (e : Event) → Once (tells c e)
+
+-- "Else cfnr: .. Invoked": the DLI1 that waits after an event is that of the invoke, if it carried one out, else the one before
+abbrev pub waitsAfter : Call → Event → Dli1
+waitsAfter c e = when eqb (e .kind) 12 && not (turnsDown c e) then dli1Of e else c .waiting
+
+abbrev pub ActWaits : Type 0
+ActWaits =
+    (identifier : ℕ) (c : Call) (e : Event) → T (wellMade e) → T (invoked (act c e identifier .call))
+    → act c e identifier .call .waiting ≡ waitsAfter c e
+
 -- the list of a call after an event: an open begins it, and it ends where the record is free
 abbrev pub listAfter : List Told → Call → Event → Call → List Told
 listAfter l c e after = when opens e || isFree after then [] else tells c e ++ l
 
--- Of what an event told, after the list l: its DLI1 gives a notice; its DLI3 shows a number. No event tells two of one sort.
+-- Of what an event told, after the list l: its DLI1 gives a notice; its DLI3 shows a number. An event tells at most one of each.
 unfoldable pub givesNotice : List Told → List Told → Bool
 givesNotice l [] = false
 givesNotice l (dli1 d ∷ before) = notices (before ++ l) d
