@@ -7,3 +7,7 @@ pub mod Kept
 pub mod Requests
 pub mod Stricter
 pub mod AsStrict
+pub mod Heard
+pub mod Told
+pub mod Recalled
+pub mod Waits

@@ -7,3 +7,4 @@ pub mod Incoming
 pub mod Outgoing
 pub mod Act
 pub mod Stricter
+pub mod Told

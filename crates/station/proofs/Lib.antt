@@ -15,3 +15,4 @@ pub mod Lists
 pub mod Shared
 pub mod Demand3
 pub mod Lives
+pub mod Told

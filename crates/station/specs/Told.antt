@@ -1,0 +1,75 @@
+-- "over the whole list of DLI1 and DLI3 that a call took account of, a number is shown exactly when every option so far is 2,
+-- every DLI3 so far is allowed and none was shown before, and a notice is given exactly as the sentences for the first and for
+-- later ones say": over a run. Which DLI1 and DLI3 an event brings is `tells` of call's specs/Told; what they give the caller is
+-- said of the list alone, by `notices` and `shows` of notice's specs/Whole. The theorems are in proofs/Told.
+use Prim.Native.Nat.{ℕ, _≤_}
+use mathlib.Core.Bool.{_&&_}
+use mathlib.Core.List.{List, [], _∷_}
+use lib.Dec.{T, eqb}
+use lib.ListN.{replicate}
+use Rattle.ground.specs.Choice.{when_then_else_}
+use Rattle.event.specs.declared.Event.{Event}
+use Rattle.notice.specs.Whole.{Told}
+use Rattle.call.specs.declared.Call.{Call}
+use Rattle.call.specs.Record.{freeCall}
+use Rattle.call.specs.Told.{tells, listAfter, Remembers, Learns}
+use Rattle.station.specs.declared.Station.{Station}
+use Rattle.station.specs.Station.{limitOk, freshStation}
+use Rattle.station.specs.Table.{at, sound, place}
+use Rattle.station.specs.Step.{Outcome, step, outcomes}
+use Rattle.station.specs.Demand3.{acts}
+
+-- `told i` is the list of what the call in record i took account of, the latest first.
+
+-- what an event brings to the CDO of the call that it acts on: nothing if it is refused
+abbrev pub news : Station → List Call → Event → List Told
+news s calls e = when acts s calls e then tells (at calls (place calls e)) e else []
+
+-- the lists after an event: at its place the list goes on, begins anew with an open, and ends where the record is free
+abbrev pub toldAfter : (ℕ → List Told) → Station → List Call → Event → ℕ → List Told
+toldAfter told s calls e i =
+    when acts s calls e && eqb i (place calls e) then listAfter (told i) (at calls i) e (at (step s calls e .calls) i) else
+    told i
+
+-- each record's history is that of its list
+abbrev pub Fits : (ℕ → List Told) → List Call → Type 0
+Fits told calls = (i : ℕ) → Remembers (told i) (at calls i .history)
+
+-- one event, where `told` are the lists before it
+pub record ByLists (told : ℕ → List Told) (s : Station) (before : List Call) (e : Event) (o : Outcome) : Type 0 where
+  -- the answer's notice and number are as the list of its call says, and none where the event brings nothing
+  pub learns : Learns (told (place before e)) (news s before e) (o .answer .notice) (o .answer .number)
+  -- what is stored after it is the history of the lists after it
+  pub fits : Fits (toldAfter told s before e) (o .calls)
+
+-- each event of a list, with the lists that those before it left
+pub data EachByLists : (ℕ → List Told) → Station → List Call → List Event → List Outcome → Type 0 where
+  over : {told : ℕ → List Told} {s : Station} {calls : List Call} → EachByLists told s calls [] []
+  onward : {told : ℕ → List Told} {s : Station} {calls : List Call} {e : Event} {es : List Event} {o : Outcome} {os : List Outcome}
+      → ByLists told s calls e o
+      → EachByLists (toldAfter told s calls e) (o .station) (o .calls) es os
+      → EachByLists told s calls (e ∷ es) (o ∷ os)
+
+-- from a sound table, with lists that fit it
+abbrev pub RunsByLists : Type 0
+RunsByLists =
+    (told : ℕ → List Told) (s : Station) (calls : List Call) (es : List Event) → T (sound s calls) → Fits told calls
+    → EachByLists told s calls es (outcomes s calls es)
+
+-- at first no call was told anything
+abbrev pub nothingTold : ℕ → List Told
+nothingTold i = []
+
+-- "Fresh means last time 0, next identifier 65,535", with 1 to 64 free records
+abbrev pub FreshByLists : Type 0
+FreshByLists =
+    (limit n : ℕ) (es : List Event) → T (limitOk limit) → 1 ≤ n → n ≤ 64
+    → EachByLists nothingTold (freshStation limit) (replicate n freeCall) es (outcomes (freshStation limit) (replicate n freeCall) es)
+
+-- every sound table has lists that fit it
+pub record Fitting (calls : List Call) : Type 0 where
+  pub told : ℕ → List Told
+  pub fits : Fits told calls
+
+abbrev pub SoundFits : Type 0
+SoundFits = (s : Station) (calls : List Call) → T (sound s calls) → Fitting calls
