@@ -5,3 +5,4 @@ pub mod Through
 pub mod Found
 pub mod Steps
 pub mod Kept
+pub mod Beside
