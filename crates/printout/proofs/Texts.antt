@@ -1,11 +1,11 @@
 -- Bytes in a buffer, piece after piece. Assumes nothing.
 use Prim.Native.Nat.{ℕ, _+_, _≤_, _<_}
 use mathlib.Core.List.{List, [], _∷_, _++_, append-assoc}
-use mathlib.Core.Path.{_≡_, refl, ap, _∙_}
+use mathlib.Core.Path.{_≡_, refl, sym, ap, _∙_}
 use native.Mathlib.Nat.{add-assoc}
 use native.Mathlib.Numerals.{add-one, add-two, add-three}
 use native.Mathlib.Omega.{arith}
-use lib.ListN.{length, take, drop, set, length-append, length-take, length-drop}
+use lib.ListN.{length, take, drop, set, length-append, length-take}
 use lib.Seq.{take-at, drop-append-add, drop-drop, sets, sets-eq}
 use Rattle.printout.specs.Written.{wrote, Written}
 
@@ -13,9 +13,6 @@ module _ (bytes : List ℕ) (at : ℕ) (old : List ℕ) (h : at + length bytes �
   -- what stands before and what was written, together
   head-long : length (take at old ++ bytes) ≡ at + length bytes
   head-long = omega (arith, length-append (take at old) bytes, length-take at old)
-
-  pub wrote-long : length (wrote bytes at old) ≡ length old
-  wrote-long = omega (arith, length-append (take at old ++ bytes) (drop (at + length bytes) old), head-long, length-drop (at + length bytes) old)
 
   pub wrote-on : (more : List ℕ) → wrote more (at + length bytes) (wrote bytes at old) ≡ wrote (bytes ++ more) at old
   wrote-on more =
@@ -50,3 +47,9 @@ and-then {a} {b} {old} {mid} {new} {at} p q h = record {
 pub in-three : {a b c old mid behind new : List ℕ} {at r r' r'' : ℕ} → Written a at old mid r → Written b r mid behind r' → Written c r' behind new r''
     → r' ≤ length old → Written (a ++ b ++ c) at old new r''
 in-three p q s h = and-then (and-then p q (omega (arith, q .next))) s h
+
+-- what was written lies within a buffer whose length stayed
+pub written-within : {bytes old new : List ℕ} {r : ℕ} → Written bytes 0 old new r → length new ≡ length old → r ≤ length old
+written-within {bytes} {old} w e =
+    let l : length (bytes ++ drop (0 + length bytes) old) ≡ length old = sym (ap length (w .text)) ∙ e in
+    omega (arith, w .next, length-append bytes (drop (0 + length bytes) old))

@@ -115,6 +115,7 @@ fn write_messages(out: &mut [u8], at: usize, sent: Sent) -> usize
 fn write_end(out: &mut [u8], at: usize, identifier: u32, counter: u8, sent: Sent) -> usize
     requires { ⌜ at + 45 ≤ length (now out) ⌝ }
     ensures { λ r. ⌜ Written (space ++ column noIdentifier identifier ++ (space ++ column noCounter counter) ++ space ++ messages sent ++ newline) at (now (out .entry)) (now (out .exit)) r ⌝ }
+    ensures { λ r. ⌜ r ≤ at + 29 ⌝ }
 {
     let behind_identifier = write_column(out, at, 65536, identifier as u64);
     let behind_counter = write_column(out, behind_identifier, 0, counter as u64);
@@ -123,10 +124,11 @@ fn write_end(out: &mut [u8], at: usize, identifier: u32, counter: u8, sent: Sent
     put(out, behind_messages, 10)
 }
 
-// The line of an answer at its position: 67 bytes at most, and room for 20 digits at each number.
+// The line of an answer at its position: 67 bytes at most. It asks for room for 20 digits at each number.
 pub fn write_line(out: &mut [u8], at: usize, position: u64, a: Answer) -> usize
     requires { ⌜ at + 96 ≤ length (now out) ⌝ }
     ensures { λ r. ⌜ Written (line position a) at (now (out .entry)) (now (out .exit)) r ⌝ }
+    ensures { λ r. ⌜ r ≤ at + 67 ⌝ }
 {
     let sent = a.sent;
     let behind_start = write_start(out, at, position, a.code);

@@ -13,4 +13,4 @@ write-end-spec = tie.close (tie.spec
     (λ c κs. let a = c .before .before .before .before .before .before .before .before .before .before .before .before .before .before .before .before .before .before .args in omega (arith, column-within 9 65536 (a .identifier) (omega arith), column-within 2 0 (a .counter) (omega arith)))
     (λ c. search needs)
     (λ c. let a = c .before .before .before .before .before .before .before .before .before .before .before .before .before .before .before .before .before .before .before .before .before .args in let x = column-within 9 65536 (a .identifier) (omega arith) in let y = column-within 2 0 (a .counter) (omega arith) in
-    and-then (and-then (and-then (and-then (c .before .before .before .before .before .before .before .before .before .before .before .before .before .before .before .before .before .before .write-column .ensures) (c .before .before .before .before .before .before .before .before .before .before .before .before .before .before .write-column2 .ensures) (omega arith)) (c .before .before .before .before .before .before .before .before .before .before .put .ensures) (omega arith)) (c .before .before .before .before .before .before .write-messages .ensures .0) (omega arith)) (c .before .before .put2 .ensures) (omega arith)))
+    (and-then (and-then (and-then (and-then (c .before .before .before .before .before .before .before .before .before .before .before .before .before .before .before .before .before .before .write-column .ensures) (c .before .before .before .before .before .before .before .before .before .before .before .before .before .before .write-column2 .ensures) (omega arith)) (c .before .before .before .before .before .before .before .before .before .before .put .ensures) (omega arith)) (c .before .before .before .before .before .before .write-messages .ensures .0) (omega arith)) (c .before .before .put2 .ensures) (omega arith), omega arith)))
