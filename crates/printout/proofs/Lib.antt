@@ -1,1 +1,5 @@
+pub mod Texts
+pub mod Digits
+pub mod Pieces
+pub mod Panel
 pub mod Cases

@@ -1,2 +1,4 @@
 pub mod Line
+pub mod Panel
+pub mod Written
 pub mod Cases

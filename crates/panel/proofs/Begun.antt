@@ -1,0 +1,15 @@
+-- The board that the panel starts with is sound. Assumes nothing.
+use mathlib.Core.Bool.{true}
+use mathlib.Core.Path.{_≡_}
+use lib.Dec.{lit≤}
+use lib.ListN.{replicate}
+use Rattle.ground.proofs.Bools.{is-true}
+use Rattle.call.specs.Record.{freeCall}
+use Rattle.station.specs.Station.{freshStation}
+use Rattle.station.specs.Table.{sound}
+use Rattle.station.proofs.Kept.{fresh-sound}
+use Rattle.engine.specs.Board.{soundBoard}
+use Rattle.panel.specs.Play.{startBoard}
+
+pub start-sound : soundBoard startBoard ≡ true
+start-sound = is-true (sound (freshStation 15) (replicate 64 freeCall)) (fresh-sound 15 64 tt (lit≤ tt) (lit≤ tt))

@@ -1,0 +1,44 @@
+-- Events on a sound board, as events on the table that it lends. Assumes nothing.
+use Prim.Native.Nat.{ℕ, suc, _+_, _≤_}
+use mathlib.Core.Bool.{true, false, not}
+use mathlib.Core.List.{List, [], _∷_, _++_, flatten}
+use mathlib.Core.Path.{_≡_, refl, _∙_}
+use native.Mathlib.Omega.{arith}
+use borrow.Author.Tests.{not-true, ltb-false}
+use lib.Dec.{ltb}
+use lib.ListN.{length, take, drop, length-take, length-drop, length-append}
+use lib.Seq.{take-at}
+use Rattle.ground.proofs.Walks.{both}
+use Rattle.event.specs.declared.Event.{Event}
+use Rattle.station.specs.Table.{sound}
+use Rattle.station.specs.Step.{step}
+use Rattle.station.proofs.Places.{length-stays}
+use Rattle.engine.specs.declared.Board.{Board}
+use Rattle.engine.specs.Board.{lent, putBack, soundBoard, stepBoard}
+use Rattle.printout.specs.Line.{line, printed}
+use Rattle.printout.specs.Panel.{linesText}
+
+module _ (b : Board) (h : soundBoard b ≡ true) where
+  not-over : ltb 64 (b .len) ≡ false
+  not-over = not-true (ltb 64 (b .len)) (both (not (ltb 64 (b .len))) (sound (b .station) (lent b)) h .0)
+
+  on-lent : (e : Event) → stepBoard b e ≡ putBack b (step (b .station) (lent b) e)
+  on-lent e = rw not-over
+
+  module _ (e : Event) (long : length (b .calls) ≡ 64) where
+    calls-long : length (step (b .station) (lent b) e .calls) ≡ b .len
+    calls-long =
+        let m = ltb-false 64 (b .len) not-over in
+        length-stays (b .station) (lent b) e ∙ omega (arith, length-take (b .len) (b .calls))
+
+    pub stays-long : length (stepBoard b e .board .calls) ≡ 64
+    stays-long =
+        let m = ltb-false 64 (b .len) not-over in
+        rw (on-lent e) (omega (arith, length-append (step (b .station) (lent b) e .calls) (drop (b .len) (b .calls)), calls-long, length-drop (b .len) (b .calls)))
+
+    -- the line of the first event, then those of the others on the board that it leaves
+    pub lines-on : (position : ℕ) (rest : List Event)
+        → linesText position (b .station) (lent b) (e ∷ rest)
+        ≡ line position (stepBoard b e .answer) ++ linesText (suc position) (stepBoard b e .board .station) (lent (stepBoard b e .board)) rest
+    unfolding printed flatten
+    lines-on position rest = rw (on-lent e, take-at (step (b .station) (lent b) e .calls) (drop (b .len) (b .calls)) (b .len) calls-long)

@@ -1,0 +1,4 @@
+pub mod Boards
+pub mod Playing
+pub mod Carried
+pub mod Begun

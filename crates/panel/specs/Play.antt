@@ -1,0 +1,44 @@
+-- A piece of the input played into a piece of the printout.
+use Prim.Native.Nat.{ℕ, _+_, _*_, _/_, min}
+use mathlib.Core.Path.{_≡_}
+use mathlib.Core.Bool.{true}
+use mathlib.Core.List.{List, [], _∷_}
+use lib.ListN.{length, replicate}
+use Rattle.event.specs.declared.Event.{Event}
+use Rattle.event.specs.Record.{eventsFrom}
+use Rattle.call.specs.Record.{freeCall}
+use Rattle.station.specs.Station.{freshStation}
+use Rattle.engine.specs.declared.Board.{Board}
+use Rattle.engine.specs.Board.{lent, soundBoard, stepBoard}
+use Rattle.printout.specs.Panel.{linesText}
+use Rattle.printout.specs.Written.{Written}
+use Rattle.panel.specs.declared.Played.{Played}
+
+-- "starts with 64 free records and a fresh station of limit 15"
+abbrev pub startBoard : Board
+startBoard = record { station = freshStation 15; len = 64; calls = replicate 64 freeCall }
+
+-- the board that a list of events leaves
+unfoldable pub boardAfter : Board → List Event → Board
+boardAfter b [] = b
+boardAfter b (e ∷ rest) = boardAfter (stepBoard b e .board) rest
+
+-- room in the buffer for one line
+abbrev pub lineRoom : ℕ
+lineRoom = 96
+
+-- how many records are played: those that are whole, as far as there is room for their lines
+abbrev pub playedCount : List ℕ → List ℕ → ℕ
+playedCount bytes out = min (length bytes / 24) (length out / lineRoom)
+
+abbrev pub playedEvents : List ℕ → List ℕ → List Event
+playedEvents bytes out = eventsFrom bytes 0 (playedCount bytes out)
+
+-- the lines of those records stand at the buffer's start, all else in it is as it was, and the result says where the next piece
+-- begins: its board, its position, the bytes that were used and those that were written
+pub record Plays (b : Board) (position : ℕ) (bytes old new : List ℕ) (r : Played) : Type 0 where
+  pub text : Written (linesText position (b .station) (lent b) (playedEvents bytes old)) 0 old new (r .written)
+  pub used : r .used ≡ playedCount bytes old * 24
+  pub next : r .position ≡ position + playedCount bytes old
+  pub board : r .board ≡ boardAfter b (playedEvents bytes old)
+  pub sound : soundBoard (r .board) ≡ true
