@@ -2,3 +2,4 @@ pub mod Boards
 pub mod Playing
 pub mod Carried
 pub mod Begun
+pub mod InPlace

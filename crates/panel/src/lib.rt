@@ -7,6 +7,7 @@ ghost use lib.Seq.{paste};
 ghost use Rattle.engine.specs.Board.{soundBoard};
 ghost use Rattle.panel.specs.Play.{startBoard, Plays};
 use engine::Board;
+use station::Station;
 
 #[repr(C)]
 pub struct Played {
@@ -37,25 +38,138 @@ fn least(a: usize, b: usize) -> usize
     if a < b { a } else { b }
 }
 
-// Plays the records of a piece that are whole, as far as there is room for their lines.
+// Plays the records of a piece that are whole, as far as there is room for their lines. The table stays in a local array, and
+// no call takes it; each arm ends the turn, so that it has its own facts.
 pub fn play(b: Board, position: u64, bytes: &[u8], out: &mut [u8]) -> Played
     requires { ⌜ (soundBoard b ≡ true) × (position + length (now bytes) / 24 < 2 ^ 64) ⌝ }
     ensures { λ r. ⌜ Plays b position (now (bytes .entry)) (now (out .entry)) (now (out .exit)) r ⌝ }
 {
     let n = least(bytes.len() / 24, out.len() / 96);
-    let mut board = b;
+    let mut calls = b.calls;
+    let mut last = b.station.last;
+    let mut next = b.station.next;
+    let limit = b.station.limit;
+    let len = b.len;
+    let kept = desk::summed(calls, len);
+    let mut free = kept.free;
+    let mut soon = kept.soon;
+    let mut dues = kept.dues;
+    let mut held = kept.held;
     let mut at: usize = 0;
-    let mut i: usize = 0;
-    while i < n {
-        let e = event::event_at(bytes, i * 24);
-        let x = engine::step_on_sound(board, e);
-        let answer = x.answer;
-        at = printout::write_line(out, at, position + i as u64, answer);
-        board = x.board;
-        i += 1;
+    let mut k: usize = 0;
+    while k < n {
+        let e = event::event_at(bytes, k * 24);
+        let time = e.time;
+        let kind = e.kind;
+        if time < last {
+            let answer = station::empty_answer(2);
+            at = printout::write_line(out, at, position + k as u64, answer);
+            k += 1;
+            continue;
+        }
+        if event::well_made(e) {
+            if kind < 4 {
+                let i = desk::lowest(free);
+                if i < len {
+                    let c = calls[i];
+                    let x = rules::opened(e);
+                    let d = x.call;
+                    calls[i] = d;
+                    free = desk::flip(free, i, c.direction, d.direction);
+                    let due = desk::quiet_until(d);
+                    dues[i] = due;
+                    soon = desk::sooner(soon, due);
+                    let id = desk::held_by(d);
+                    held[i] = id;
+                    last = time;
+                    let answer = engine::answered(i as u8, x);
+                    at = printout::write_line(out, at, position + k as u64, answer);
+                    k += 1;
+                    continue;
+                }
+                let answer = station::empty_answer(8);
+                at = printout::write_line(out, at, position + k as u64, answer);
+                k += 1;
+                continue;
+            }
+            if kind == 10 {
+                soon = desk::refresh(soon, &dues, time);
+                let i = desk::due_at(&dues, soon, time);
+                if i < len {
+                    let c = calls[i];
+                    let x = rules::incoming::expired(c);
+                    let d = x.call;
+                    calls[i] = d;
+                    free = desk::flip(free, i, c.direction, d.direction);
+                    let due = desk::quiet_until(d);
+                    dues[i] = due;
+                    soon = desk::sooner(soon, due);
+                    let id = desk::held_by(d);
+                    held[i] = id;
+                    last = time;
+                    let answer = engine::answered(i as u8, x);
+                    at = printout::write_line(out, at, position + k as u64, answer);
+                    k += 1;
+                    continue;
+                }
+                last = time;
+                let answer = station::empty_answer(0);
+                at = printout::write_line(out, at, position + k as u64, answer);
+                k += 1;
+                continue;
+            }
+            let i = e.call as usize;
+            if i < len {
+                let c = calls[i];
+                let s = Station {
+                    last: last,
+                    next: next,
+                    limit: limit,
+                };
+                let code = engine::named_refusal(s, c, e);
+                if code == 0 {
+                    let identifier = engine::identifier_in(e, &held, next);
+                    let x = rules::act(c, e, identifier);
+                    let d = x.call;
+                    calls[i] = d;
+                    free = desk::flip(free, i, c.direction, d.direction);
+                    let due = desk::quiet_until(d);
+                    dues[i] = due;
+                    soon = desk::sooner(soon, due);
+                    let id = desk::held_by(d);
+                    held[i] = id;
+                    next = engine::next_with(e, identifier, next);
+                    last = time;
+                    let answer = engine::answered(e.call, x);
+                    at = printout::write_line(out, at, position + k as u64, answer);
+                    k += 1;
+                    continue;
+                }
+                let answer = station::empty_answer(code);
+                at = printout::write_line(out, at, position + k as u64, answer);
+                k += 1;
+                continue;
+            }
+            let answer = station::empty_answer(4);
+            at = printout::write_line(out, at, position + k as u64, answer);
+            k += 1;
+            continue;
+        }
+        let answer = station::empty_answer(3);
+        at = printout::write_line(out, at, position + k as u64, answer);
+        k += 1;
     }
+    let station = Station {
+        last: last,
+        next: next,
+        limit: limit,
+    };
     Played {
-        board: board,
+        board: Board {
+            station: station,
+            len: len,
+            calls: calls,
+        },
         position: position + n as u64,
         used: n * 24,
         written: at,
