@@ -1,6 +1,7 @@
 /* Plays the page's nine events on a fresh station with 64 free records, and
  * prints the panel's nine lines. */
 #include <stdio.h>
+#include <string.h>
 
 #include "whipsail.h"
 
@@ -37,6 +38,34 @@ static void line(unsigned position, const whipsail_answer *a) {
     printf("\n");
 }
 
+static uint8_t *big_endian(uint8_t *at, uint64_t value, int count) {
+    for (int i = count - 1; i >= 0; i--, value >>= 8)
+        at[i] = (uint8_t)value;
+    return at + count;
+}
+
+/* The 24 bytes of an event. */
+static void encode(uint8_t *at, const whipsail_event *e) {
+    const uint8_t bytes[] = {e->kind, e->call, e->leg, e->message, e->reason, e->option, e->counter, e->flag};
+    memcpy(at, bytes, sizeof bytes);
+    at = big_endian(at + sizeof bytes, e->identifier, 2);
+    at = big_endian(at, e->first, 2);
+    at = big_endian(at, e->second, 2);
+    at = big_endian(at, e->third, 2);
+    big_endian(at, e->time, 8);
+}
+
+/* The same events in one run, with a cut record behind them. */
+static int same_in_one_run(const whipsail_board *start, const whipsail_board *end) {
+    uint8_t bytes[sizeof events / sizeof events[0] * 24 + 5] = {0};
+    for (unsigned i = 0; i < sizeof events / sizeof events[0]; i++)
+        encode(bytes + i * 24, &events[i]);
+    whipsail_ran ran = whipsail_run(*start, bytes, sizeof bytes);
+    return ran.done == 8 && ran.refused == 1 && ran.cut == 5 && ran.board.station.last == end->station.last &&
+           ran.board.station.next == end->station.next &&
+           memcmp(ran.board.calls, end->calls, sizeof end->calls) == 0;
+}
+
 int main(void) {
     whipsail_board board = {.station = whipsail_fresh_short(), .len = WHIPSAIL_RECORDS};
     for (unsigned i = 0; i < sizeof events / sizeof events[0]; i++) {
@@ -44,5 +73,6 @@ int main(void) {
         line(i, &stepped.answer);
         board = stepped.board;
     }
-    return 0;
+    whipsail_board start = {.station = whipsail_fresh_short(), .len = WHIPSAIL_RECORDS};
+    return same_in_one_run(&start, &board) ? 0 : 1;
 }

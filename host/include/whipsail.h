@@ -146,6 +146,15 @@ typedef struct whipsail_read {
     whipsail_event event;
 } whipsail_read;
 
+/* What a run leaves: how many events were done and how many refused, the byte
+ * count of a cut last record (it is not run), and the board. */
+typedef struct whipsail_ran {
+    uint64_t done;
+    uint64_t refused;
+    size_t cut;
+    whipsail_board board;
+} whipsail_ran;
+
 #if defined(__STDC_VERSION__) && __STDC_VERSION__ >= 201112L
 _Static_assert(sizeof(whipsail_event) == 24, "event");
 _Static_assert(sizeof(whipsail_call) == 40, "call");
@@ -168,6 +177,10 @@ whipsail_stepped whipsail_step(whipsail_board board, whipsail_event event);
 /* The event whose 24 bytes start at `place` among `len` bytes, which are read
  * and not kept. `bytes` is not null, also where `len` is 0. */
 whipsail_read whipsail_event_at(const uint8_t *bytes, size_t len, size_t place);
+
+/* All whole records of 24 bytes among `len` bytes, one after the other, as
+ * whipsail_step would do them; the table is tested once. */
+whipsail_ran whipsail_run(whipsail_board board, const uint8_t *bytes, size_t len);
 
 /* Whether kind and fields are as the table of kinds says: if not, a step
  * refuses the event with 3. */

@@ -109,7 +109,7 @@ module _ (identifier : ℕ) (c : Call) (e : Event) (h : T (soundCall (e .time) c
       (λ _. when-has (Leaves (e .time) identifier diverting) (onLeg2 e)
       (λ _. left-outgoing (out.cdr-idle-kept w))
       (λ _. when-has (Leaves (e .time) identifier diverting) (invoked c)
-      (λ i. left-outgoing (out.left-alone-kept w i))
+      (λ i. left-outgoing (out.leg2-remains-kept w i))
       (λ _. left-free)))
       (λ r. when-has (Leaves (e .time) identifier diverting) (onLeg2 e)
       (λ l. left-outgoing (out.taken-over-kept e w (denied (onLeg2 e) (invoked c) q l)))

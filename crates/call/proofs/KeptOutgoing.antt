@@ -17,7 +17,7 @@ use Rattle.call.specs.declared.Effect.{Effect}
 use Rattle.call.specs.Record.{active, delivered, divert, invoked, forwardedParty}
 use Rattle.call.specs.Fields.{basic-is, cdo-is, cdr-is, party-is, waiting-is, history-is}
 use Rattle.call.specs.Soundness.{exactly, waitingHolds, historyHolds, dli1Unused}
-use Rattle.call.specs.Outgoing.{openedOutgoing, dli1Of, toCdo, cdrIdle, movedOver, withDli3, afterMessage, turnsDown, rerouted, informed, takenOver, onFirstLeg, leftAlone}
+use Rattle.call.specs.Outgoing.{openedOutgoing, dli1Of, toCdo, cdrIdle, movedOver, withDli3, afterMessage, turnsDown, rerouted, informed, takenOver, onFirstLeg, leg2Remains}
 use Rattle.call.proofs.Denials.{denied, never}
 use Rattle.call.proofs.Sound.{Outgoing}
 
@@ -153,8 +153,8 @@ first-leg-kept {c} e w a = message-kept e (when connect e then cdrIdle c else c)
     (λ n. record { sound = w; inactive = a; alone = λ t. absurd (T-not (connect e) n t) }))
 
 -- "RELEASE on leg 1: leg 2 becomes leg 1, Proceeding"
-pub left-alone-kept : {c : Call} → Outgoing c → T (invoked c) → Leaves (leftAlone c)
-left-alone-kept w i = proceeding-kept (moved-kept w i) (waits w i .inactive) tt
+pub leg2-remains-kept : {c : Call} → Outgoing c → T (invoked c) → Leaves (leg2Remains c)
+leg2-remains-kept w i = proceeding-kept (moved-kept w i) (waits w i .inactive) tt
 
 -- "12: .."
 pub rerouted-kept : {c : Call} (e : Event) → Outgoing c → T (reroutingFields e) → Leaves (rerouted c e)

@@ -1,4 +1,4 @@
--- "An open request ends only by its result, its error or reject, its expiry, an answer of the call or the end of the call." Assumes nothing.
+-- An open request ends only by its result, its error or reject, its expiry, an answer of the call or the end of the call. Assumes nothing.
 use Prim.Native.Nat.{ℕ, _≤_}
 use native.Mathlib.Omega.{arith}
 use mathlib.Core.Path.{_≡_}
@@ -23,7 +23,7 @@ pub divert-idle : (c : Call) (e : Event) → T (diverts e) → T (not (stateForb
 unfolding stateForbids
 divert-idle c e d n = let m = rw (eqb→eq (e .kind) 6 d) at n in search (nor-l, nor-r) depth 8
 
--- "its result, its error or reject, its expiry, an answer of the call or the end of the call"
+-- its result, its error or reject, its expiry, an answer of the call or the end of the call
 abbrev pub endsRequest : Event → Bool
 endsRequest e = answersRequest e || clock e || eqb (e .kind) 5 || ends e || eqb (e .kind) 15
 

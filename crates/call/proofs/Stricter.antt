@@ -23,7 +23,7 @@ use Rattle.call.specs.Record.{isFree, divert, invoked, noDli1, freeCall}
 use Rattle.call.specs.State.{stateForbids}
 use Rattle.call.specs.Fields.{basic-is}
 use Rattle.call.specs.Incoming.{due, expired, actIncoming}
-use Rattle.call.specs.Outgoing.{dli1Of, turnsDown, redirected, forwarded, rerouted, informed, handOver, cdrIdle, movedOver, withDli3, numberFor, afterMessage, takenOver, onFirstLeg, leftAlone, messaged, actOutgoing}
+use Rattle.call.specs.Outgoing.{dli1Of, turnsDown, redirected, forwarded, rerouted, informed, handOver, cdrIdle, movedOver, withDli3, numberFor, afterMessage, takenOver, onFirstLeg, leg2Remains, messaged, actOutgoing}
 use Rattle.call.specs.Act.{opened, ended, act}
 use Rattle.call.specs.Stricter.{option-is, flag-is, StricterEvent, same, lower, hide, StricterCall, stricter, StricterEffect}
 
@@ -171,7 +171,7 @@ first-stricter c c' e e' (stricter _ w h p q) (framed _ option flag) f =
     }
 
 -- "RELEASE on leg 1: leg 2 becomes leg 1, Proceeding, CDR Idle, DLI1 to the CDO (ours)."
-left-stricter : {c c' : Call} → StricterCall c c' → StricterEffect (leftAlone c) (leftAlone c')
+left-stricter : {c c' : Call} → StricterCall c c' → StricterEffect (leg2Remains c) (leg2Remains c')
 left-stricter (stricter c w h p q) = record {
   call = proceeding (moved-stricter (stricter c w h p q));
   sent = refl;

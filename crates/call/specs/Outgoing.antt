@@ -169,8 +169,8 @@ onFirstLeg c e = record {
 }
 
 -- "RELEASE on leg 1: leg 2 becomes leg 1, Proceeding, CDR Idle, DLI1 to the CDO (ours)."
-abbrev pub leftAlone : Call → Effect
-leftAlone c = record {
+abbrev pub leg2Remains : Call → Effect
+leg2Remains c = record {
   call = basic-is 1 (movedOver c);
   sent = nothing;
   notice = handOver c .notice;
@@ -183,7 +183,7 @@ leftAlone c = record {
 abbrev pub released : Call → Event → Effect
 released c e =
     when onLeg2 e then sending (cdrIdle c) (one (legFailedOn 1)) else
-    when invoked c then leftAlone c else
+    when invoked c then leg2Remains c else
     silent freeCall
 
 -- "14: .."

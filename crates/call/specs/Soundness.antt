@@ -44,14 +44,15 @@ outgoingCodes c = leb 1 (c .basic) && leb (c .basic) 3 && leb (c .cdo) 1 && leb 
 abbrev pub partyThere : Call → Bool
 partyThere c = not (eqb (c .party) 0)
 
--- "in Invoked also the forwarded party (leg 2), option and reason"; "CDR is Invoked only in Delivered and with reason cfnr"
+-- "in Invoked also the forwarded party (leg 2), option and reason"; "CDR is Invoked only in Delivered and with reason cfnr";
+-- "each code is in range, each party .. is not 0"
 abbrev pub waitingHolds : Call → Bool
 waitingHolds c =
     when invoked c then delivered c && eqb (c .waiting .reason) cfnr && leb (c .waiting .option) 2 && not (eqb (c .waiting .number) 0) else
     dli1Unused (c .waiting)
 
 -- "the history: DLI1 seen, strictest option, a forbidden DLI3 seen, number shown, last nominated number. It is all 0
--- before the first DLI1"
+-- before the first DLI1"; "each code is in range, .. (DLI1 seen) nominated number is not 0"
 abbrev pub historyHolds : History → Bool
 historyHolds h =
     when seen h then leb (h .strictest) 2 && leb (h .forbidden) 1 && leb (h .shown) 1 && not (eqb (h .nominated) 0) else

@@ -1,4 +1,5 @@
--- "5: The state rules below don't take the event", split into what the basic state forbids and what a service state forbids.
+-- "5: The state rules below don't take the event", split into what the basic state forbids (FACILITY on leg 2: in each)
+-- and what a service state forbids.
 use Prim.Native.Nat.{ℕ}
 use mathlib.Core.Bool.{Bool, false, _&&_, _||_, not}
 use lib.Dec.{eqb}

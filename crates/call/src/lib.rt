@@ -27,7 +27,8 @@ pub struct Call {
     pub start: u64,
 }
 
-// A message with its leg and arguments; an argument that it doesn't have is 0, and so is the letter of none.
+// A message with its leg and arguments; `diverting` is the number from which the call was diverted: DLI2's diverting number
+// and the invoke's last rerouting number; an argument that it doesn't have is 0, and so is the letter of none.
 #[repr(C)]
 pub struct Message {
     pub letter: u8,

@@ -1,5 +1,4 @@
--- How the code holds a lent table: an array of 64 records of which the first `len` are lent. "An array of 64 with a length"
--- stands for the list of its first records; the rest of the array is none of the table.
+-- How the code holds a lent table: an array of 64 records of which the first `len` are lent. It stands for the list of those; the rest of the array is none of the table.
 use Prim.Native.Nat.{ℕ, _≤_}
 use mathlib.Core.Path.{_≡_}
 use mathlib.Core.Bool.{Bool, true, false, _&&_, _||_, not}

@@ -14,13 +14,6 @@ cfb = 2
 abbrev pub cfnr : ℕ
 cfnr = 3
 
--- "Options: 0 no notification, 1 without number, 2 with number; a smaller one is stricter"
-abbrev pub noNotification : ℕ
-noNotification = 0
-
-abbrev pub withNumber : ℕ
-withNumber = 2
-
 -- "message 1 FACILITY, 2 ALERTING, 3 CONNECT, 4 RELEASE COMPLETE"
 abbrev pub facility : Event → Bool
 facility e = eqb (e .message) 1

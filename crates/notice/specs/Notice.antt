@@ -8,7 +8,7 @@ use Rattle.notice.specs.declared.History.{History}
 use Rattle.notice.specs.declared.Noticed.{Noticed}
 use Rattle.notice.specs.declared.Shown.{Shown}
 
--- no notice: "None is not 0", since notice 0 is reason unknown
+-- no notice: 0 is a notice, of reason unknown
 abbrev pub noNotice : ℕ
 noNotice = 255
 
@@ -58,7 +58,7 @@ afterDli1 h d = record {
 abbrev pub takeDli1 : History → Dli1 → Noticed
 takeDli1 h d = record { notice = noticeOf h d; history = afterDli1 h d }
 
--- "DLI3 in Divert shows its number .. exactly if every option so far is 2, every DLI3 so far is allowed and no number
+-- of a DLI3 in Divert (its callers test that): it "shows its number .. exactly if every option so far is 2, every DLI3 so far is allowed and no number
 -- has been shown in this call."
 abbrev pub mayShow : History → ℕ → Bool
 mayShow h flag = eqb flag allowed && eqb (h .strictest) 2 && eqb (h .forbidden) 0 && eqb (h .shown) 0

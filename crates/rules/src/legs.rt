@@ -5,7 +5,7 @@ ghost use Rattle.ground.specs.Choice.{when_then_else_};
 ghost use Rattle.event.specs.Kinds.{connect};
 ghost use Rattle.call.specs.Record.{invoked};
 ghost use Rattle.call.specs.Messages.{legFailedOn, releaseOn, one, nothing, sending};
-ghost use Rattle.call.specs.Outgoing.{handOver, cdrIdle, movedOver, withDli3, numberFor, afterMessage, takenOver, onFirstLeg, leftAlone, released, messaged};
+ghost use Rattle.call.specs.Outgoing.{handOver, cdrIdle, movedOver, withDli3, numberFor, afterMessage, takenOver, onFirstLeg, leg2Remains, released, messaged};
 use super::message;
 use super::outgoing;
 use call::Call;
@@ -155,8 +155,8 @@ fn on_first_leg(c: Call, e: Event) -> Effect
 }
 
 // "RELEASE on leg 1: leg 2 becomes leg 1, Proceeding, CDR Idle, DLI1 to the CDO (ours)."
-fn left_alone(c: Call) -> Effect
-    ensures { λ r. ⌜ r ≡ leftAlone c ⌝ }
+fn leg2_remains(c: Call) -> Effect
+    ensures { λ r. ⌜ r ≡ leg2Remains c ⌝ }
 {
     let noticed = hand_over(c);
     let mut d = moved_over(c);
@@ -189,7 +189,7 @@ fn released(c: Call, e: Event) -> Effect
     if e.leg == 2 {
         leg_failed(c)
     } else if c.cdr == 1 {
-        left_alone(c)
+        leg2_remains(c)
     } else {
         message::freed()
     }

@@ -1,3 +1,3 @@
-// Tests of one call record: when it is sound, which events it refuses, and when its request is due.
+// Tests of one call record: when it is sound, which events it refuses.
 pub mod record;
 pub mod state;

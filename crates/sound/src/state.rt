@@ -1,8 +1,7 @@
-// Numbers 4 to 7 of the answers, as far as one record decides them, and which records a clock event ends.
+// Numbers 4 to 7 of the answers, as far as one record decides them.
 ghost use mathlib.Core.Path.{_≡_};
 ghost use mathlib.Core.Bool.{_||_};
 ghost use Rattle.call.specs.State.{incomingBasicForbids, incomingServiceForbids, outgoingBasicForbids, outgoingServiceForbids, stateForbids};
-ghost use Rattle.call.specs.Incoming.{due as dueAt};
 ghost use Rattle.station.specs.Refusals.{wrongCall, otherIdentifier, overLimit};
 use super::record::fits;
 use call::Call;
@@ -97,15 +96,4 @@ pub fn over_limit(s: Station, c: Call, e: Event) -> bool
     ensures { λ r. ⌜ r ≡ overLimit s c e ⌝ }
 {
     (e.kind == 6) & (s.limit <= c.counter)
-}
-
-// "of the records Requested with time minus start at least 10,000"; a start after the time is not due
-pub fn due(c: Call, time: u64) -> bool
-    ensures { λ r. ⌜ r ≡ dueAt time c ⌝ }
-{
-    let start = c.start;
-    if time < start {
-        return false;
-    }
-    (c.cds == 1) & (10000 <= time - start)
 }

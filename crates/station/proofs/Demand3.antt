@@ -1,4 +1,4 @@
--- Demand 3: a stricter run shows no more and is otherwise the same. Takes as parameter that each event leaves a sound table.
+-- Demand 3: a stricter run shows no more and is otherwise the same. Assumes nothing.
 use Prim.Native.Nat.{ℕ}
 use mathlib.Core.Path.{_≡_, refl, ap, sym, _∙_}
 use mathlib.Core.Bool.{Bool, true, false, not, _&&_}

@@ -1,5 +1,4 @@
--- Demand 3: "In calls where nothing was tightened the whole answers are equal." Takes as parameter that each event leaves a sound
--- table.
+-- Demand 3: "In calls where nothing was tightened the whole answers are equal." Assumes nothing.
 use Prim.Native.Nat.{ℕ}
 use mathlib.Core.Path.{_≡_, refl, ap, sym, _∙_}
 use mathlib.Core.Bool.{Bool, true, false, not, _&&_, _||_}

@@ -78,7 +78,7 @@ step s calls e = byNumber s calls e (refusal s calls e)
 unfoldable pub stepOnSound : Station → List Call → Event → Outcome
 stepOnSound s calls e = byNumber s calls e (refusalOnSound s calls e)
 
--- "event lists": the outcome of each event, in order, each on what the one before it left
+-- the outcome of each event, in order, each on what the one before it left
 unfoldable pub outcomes : Station → List Call → List Event → List Outcome
 outcomes s calls [] = []
 outcomes s calls (e ∷ rest) = let o = step s calls e in o ∷ outcomes (o .station) (o .calls) rest

@@ -46,7 +46,7 @@ abbrev pub identifierFor : Station → List Call → ℕ
 identifierFor s calls = drawn (openIdentifiers s calls) (s .next)
 
 -- where an event acts: "An open takes the lowest free record."; a clock event ends "the lowest" that is due; else the call it
--- names. The table's length where there is none.
+-- names. Where no record is free, and where none is due, it is the table's length.
 abbrev pub place : List Call → Event → ℕ
 place calls e =
     when opens e then first isFree calls else

@@ -4,10 +4,12 @@ ghost use Prim.Native.Nat.{ℕ};
 ghost use Rattle.event.specs.WellMade.{wellMade};
 ghost use Rattle.station.specs.Station.{freshOf, shortForm};
 ghost use Rattle.engine.specs.Board.{stepBoard};
+ghost use Rattle.runs.specs.Run.{runBoard};
 ghost use Rattle.whipsail.specs.Read.{notRead, readAt};
 use engine::Board;
 use engine::Stepped;
 use event::Event;
+use runs::Ran;
 use station::Made;
 use station::Station;
 
@@ -91,4 +93,12 @@ pub extern "C" fn whipsail_step(b: Board, e: Event) -> Stepped
     ensures { λ r. ⌜ r ≡ stepBoard b e ⌝ }
 {
     engine::step(b, e)
+}
+
+// All whole records of 24 bytes, one after the other.
+#[no_mangle]
+pub extern "C" fn whipsail_run(b: Board, events: &[u8]) -> Ran
+    ensures { λ r. ⌜ r ≡ runBoard b (now (events .entry)) ⌝ }
+{
+    runs::run(b, events)
 }
