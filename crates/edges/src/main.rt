@@ -1,0 +1,24 @@
+// The edges of the page and the readings that a line can show, run by program.
+//
+// The groups of standard input are those of the file events.txt beside src/: for each a record of kind 255 with its label, and
+// then its events as host/model's `events encode` writes them (`events decode` reads them back). Their lines in the file stdout are
+// those that host/model's `modelrun` prints for the events of each group alone. The groups of `records` and `tables` were built
+// once more over that model's own records and stations, and their lines are those of its `step`. All were read against the
+// page's sentences and the readings.
+mod events;
+mod groups;
+mod records;
+mod show;
+mod tables;
+
+fn main() {
+    groups::from_input();
+    records::all_used();
+    records::wrapped();
+    tables::lengths();
+    tables::limits();
+    tables::fresh_codes();
+    tables::damaged_outgoing();
+    tables::damaged_incoming();
+    tables::sound();
+}
