@@ -2,3 +2,5 @@ pub mod Boards
 pub mod Playing
 pub mod Carried
 pub mod Begun
+pub mod Records
+pub mod Pieces

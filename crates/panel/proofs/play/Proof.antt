@@ -1,8 +1,7 @@
 -- `panel::play` meets its contract: the loop keeps `Playing`, and the measure is the events that are left. Assumes nothing.
 use Prim.Native.Nat.{_≤_, _-_, _*_}
-use mathlib.Core.Path.{_≡_, refl, sym, _∙_}
+use mathlib.Core.Path.{_≡_}
 use native.Mathlib.Omega.{arith}
-use borrow.Author.Needs.{needs}
 use lib.ListN.{length}
 use Rattle.ground.proofs.Walks.{mapped-long}
 use Rattle.panel.proofs.Playing.{Playing, playing-start, playing-next, played-text, played-board}
