@@ -3,3 +3,5 @@ pub mod Playing
 pub mod Carried
 pub mod Begun
 pub mod InPlace
+pub mod Records
+pub mod Pieces

@@ -2,7 +2,6 @@
 use Prim.Native.Nat.{ℕ, _+_, _≤_, _<_}
 use mathlib.Core.Path.{_≡_}
 use mathlib.Core.Bool.{true}
-use Rattle.engine.specs.declared.Board.{Board}
 use Rattle.engine.specs.Board.{soundBoard}
 use Rattle.panelrun.specs.declared.Run.{Run}
 
