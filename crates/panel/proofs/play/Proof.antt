@@ -9,7 +9,8 @@ use Rattle.desk.specs.Desk.{never}
 use Rattle.engine.specs.Board.{stepSoundBoard}
 use Rattle.engine.specs.Beside.{desk, boardNow, Beside}
 use Rattle.engine.proofs.Beside.{beside-start, beside-soon, beside-passed, beside-next, may-flip}
-use Rattle.engine.proofs.Steps.{early-step, ill-step, opened-step, full-step, ended-step, idle-step, outside-step, refused-step, done-step, room, tested-short}
+use Rattle.engine.proofs.Steps.{early-step, ill-step, opened-step, full-step, ended-step, idle-step, outside-step, refused-step, done-step, tested-short}
+use Rattle.decide.proofs.Decisions.{room}
 use Rattle.panel.proofs.Playing.{Playing, playing-start, played-text, played-board}
 use Rattle.panel.proofs.InPlace.{playing-refused, playing-idle, playing-done}
 use Rattle.panel.proofs.play.Statement.{statement}

@@ -9,7 +9,8 @@ use Rattle.desk.specs.Desk.{never}
 use Rattle.engine.specs.Board.{stepSoundBoard}
 use Rattle.engine.specs.Beside.{desk, boardNow, Beside}
 use Rattle.engine.proofs.Beside.{beside-start, beside-soon, beside-passed, beside-next, may-flip}
-use Rattle.engine.proofs.Steps.{early-step, ill-step, opened-step, full-step, ended-step, idle-step, outside-step, refused-step, done-step, room}
+use Rattle.engine.proofs.Steps.{early-step, ill-step, opened-step, full-step, ended-step, idle-step, outside-step, refused-step, done-step}
+use Rattle.decide.proofs.Decisions.{room}
 use Rattle.runs.specs.Playing.{Playing}
 use Rattle.runs.proofs.Folds.{first-none}
 use Rattle.runs.proofs.Plays.{playing-refused, playing-idle, playing-done}
