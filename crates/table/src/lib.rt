@@ -2,13 +2,15 @@
 ghost use mathlib.Core.Path.{_≡_};
 ghost use mathlib.Core.Bool.{_&&_};
 ghost use Prim.Native.Nat.{ℕ, _≤_};
-ghost use lib.ListN.{take};
-ghost use Rattle.ground.specs.Lists.{first, all};
+ghost use lib.Dec.{eqb};
+ghost use lib.ListN.{length, take, drop};
+ghost use Rattle.ground.specs.Lists.{first, all, any};
 ghost use Rattle.identifier.specs.Identifier.{distinct, drawn};
 ghost use Rattle.call.specs.Record.{isFree};
 ghost use Rattle.call.specs.Incoming.{due};
 ghost use Rattle.call.specs.Soundness.{soundCall};
 ghost use Rattle.station.specs.Table.{requestsOf};
+ghost use Rattle.table.specs.Column.{apartIn};
 use call::Call;
 
 // "An open takes the lowest free record."; len where none is free.
@@ -81,61 +83,72 @@ pub fn free_identifier(calls: [Call; 64], len: usize, next: u16) -> u16
     candidate
 }
 
-// "no two Requested records share an identifier": all pairs are compared.
-fn apart(calls: [Call; 64], len: usize) -> bool
-    requires { ⌜ len ≤ 64 ⌝ }
-    ensures { λ r. ⌜ r ≡ distinct (requestsOf (take len calls)) ⌝ }
+// Whether the column holds the number wanted, from a place on.
+fn stands_from(held: &[u32; 64], from: usize, wanted: u32) -> bool
+    requires { ⌜ length (now held) ≡ 64 ⌝ }
+    ensures { λ r. ⌜ r ≡ any (eqb wanted) (drop from (now (held .entry))) ⌝ }
 {
-    let mut i = len;
-    'row: while 0 < i {
-        let k = i - 1;
-        let c = calls[k];
-        let mut j = i;
-        i = k;
-        if c.cds == 1 {
-            loop {
-                if j >= len {
-                    continue 'row;
-                }
-                let d = calls[j];
-                if (d.cds == 1) & (c.identifier == d.identifier) {
-                    return false;
-                }
-                j += 1;
-            }
+    let mut j = from;
+    while j < 64 {
+        if held[j] == wanted {
+            return true;
         }
+        j += 1;
+    }
+    false
+}
+
+// No two open requests share an identifier: all pairs are compared.
+fn apart(held: &[u32; 64]) -> bool
+    requires { ⌜ length (now held) ≡ 64 ⌝ }
+    ensures { λ r. ⌜ r ≡ apartIn (now (held .entry)) ⌝ }
+{
+    let mut i: usize = 0;
+    while i < 64 {
+        let wanted = held[i];
+        if wanted == 0 {
+            i += 1;
+            continue;
+        }
+        if stands_from(held, i + 1, wanted) {
+            return false;
+        }
+        i += 1;
     }
     true
 }
 
-// Each record is sound, "and no two Requested records share an identifier". From the last record to the first, each
+// Each record is sound, "and no two Requested records share an identifier". From the last record to the first each
 // identifier sets a mark; only where a mark was set already are all pairs compared.
 pub fn sound_table(calls: [Call; 64], len: usize, last: u64) -> bool
     requires { ⌜ len ≤ 64 ⌝ }
     ensures { λ r. ⌜ r ≡ (all (soundCall last) (take len calls) && distinct (requestsOf (take len calls))) ⌝ }
 {
+    let mut held = [0u32; 64];
     let mut marks = [0u8; 256];
     let mut clash = false;
     let mut i = len;
     while 0 < i {
         let k = i - 1;
         let c = calls[k];
-        if sound::record::sound_call(c, last) {
-            i = k;
-            if c.cds == 1 {
-                let m = (c.identifier % 256) as usize;
-                if marks[m] == 0 {
-                    marks[m] = 1;
-                    continue;
-                }
-                clash = true;
-            }
+        if !sound::record::sound_call(c, last) {
+            return false;
+        }
+        i = k;
+        let id = desk::held_by(c);
+        held[k] = id;
+        if id == 0 {
             continue;
         }
-        return false;
+        let m = (id % 256) as usize;
+        if marks[m] == 0 {
+            marks[m] = 1;
+            continue;
+        }
+        clash = true;
     }
     if clash {
-        return apart(calls, len);
+        return apart(&held);
     }
     true
 }
