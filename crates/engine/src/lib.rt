@@ -111,16 +111,16 @@ pub fn next_with(e: Event, identifier: u16, next: u16) -> u16
 pub fn named_refusal(s: Station, c: Call, e: Event) -> u8
     ensures { λ r. ⌜ r ≡ namedRefusal s c e ⌝ }
 {
-    if sound::state::wrong_call(c, e) {
+    if state::wrong_call(c, e) {
         return 4;
     }
-    if sound::state::state_forbids(c, e) {
+    if state::state_forbids(c, e) {
         return 5;
     }
-    if sound::state::other_identifier(c, e) {
+    if state::other_identifier(c, e) {
         return 6;
     }
-    if sound::state::over_limit(s, c, e) {
+    if state::over_limit(s, c, e) {
         return 7;
     }
     0
@@ -169,7 +169,7 @@ fn all_sound(calls: [Call; 64], len: usize, last: u64) -> bool
     let mut i: usize = 0;
     while i < len {
         let c = calls[i];
-        if sound::record::sound_call(c, last) {
+        if sound::sound_call(c, last) {
             i += 1;
         } else {
             return false;
@@ -227,7 +227,7 @@ fn ticking(b: Board, d: Desk, e: Event) -> Stepped
     let i = desk::first_past(&dues, e.time);
     if i < len {
         let c = b.calls[i];
-        let x = rules::incoming::expired(c);
+        let x = incoming::expired(c);
         settled(b, e, i, next, x)
     } else {
         idle(b, e)
