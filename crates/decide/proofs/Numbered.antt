@@ -23,7 +23,7 @@ use Rattle.station.specs.declared.Station.{Station}
 use Rattle.station.specs.Table.{at, place, identifierFor}
 use Rattle.station.specs.Refusals.{wrongCall, noSuchCall, notTaken, otherIdentifier, overLimit, noFreeRecord, refusalOnSound}
 use Rattle.station.specs.Step.{effectAt}
-use Rattle.sound.proofs.Groups.{opener, no-opener, no-incoming, no-outgoing, past-incoming}
+use Rattle.event.proofs.Groups.{opener, no-opener, no-incoming, no-outgoing, past-incoming}
 use Rattle.decide.specs.Decided.{namedRefusal}
 use Rattle.decide.proofs.Sorts.{kind-low, kind-high, names, open-acts, clock-acts}
 

@@ -127,16 +127,16 @@ pub fn next_with(e: Event, identifier: u16, next: u16) -> u16
 pub fn named_refusal(s: Station, c: Call, e: Event) -> u8
     ensures { λ r. ⌜ r ≡ namedRefusal s c e ⌝ }
 {
-    if sound::state::wrong_call(c, e) {
+    if state::wrong_call(c, e) {
         return 4;
     }
-    if sound::state::state_forbids(c, e) {
+    if state::state_forbids(c, e) {
         return 5;
     }
-    if sound::state::other_identifier(c, e) {
+    if state::other_identifier(c, e) {
         return 6;
     }
-    if sound::state::over_limit(s, c, e) {
+    if state::over_limit(s, c, e) {
         return 7;
     }
     0
@@ -186,7 +186,7 @@ pub fn decided_on_sound(calls: [Call; 64], len: usize, input: Input) -> Decision
             return idle(s, e);
         }
         let c = calls[i];
-        let x = rules::incoming::expired(c);
+        let x = incoming::expired(c);
         return settled(station_with(s, e, s.next), i, x);
     }
     let i = e.call as usize;

@@ -97,7 +97,7 @@ pub fn play(b: Board, position: u64, bytes: &[u8], out: &mut [u8]) -> Played
                 let i = desk::due_at(&dues, soon, time);
                 if i < len {
                     let c = calls[i];
-                    let x = rules::incoming::expired(c);
+                    let x = incoming::expired(c);
                     let d = x.call;
                     calls[i] = d;
                     free = desk::flip(free, i, c.direction, d.direction);

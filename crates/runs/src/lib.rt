@@ -73,7 +73,7 @@ fn run_tested(b: Board, events: &[u8]) -> Ran
                 let i = desk::due_at(&dues, soon, time);
                 if i < len {
                     let c = calls[i];
-                    let x = rules::incoming::expired(c);
+                    let x = incoming::expired(c);
                     let d = x.call;
                     calls[i] = d;
                     free = desk::flip(free, i, c.direction, d.direction);

@@ -131,7 +131,7 @@ pub fn sound_table(calls: [Call; 64], len: usize, last: u64) -> bool
     while 0 < i {
         let k = i - 1;
         let c = calls[k];
-        if !sound::record::sound_call(c, last) {
+        if !sound::sound_call(c, last) {
             return false;
         }
         i = k;
