@@ -3,6 +3,7 @@ use native.Mathlib.Omega.{arith}
 use lib.ListN.{length}
 use borrow.Author.Needs.{needs}
 use Rattle.ground.proofs.Walks.{mapped-long}
+use Rattle.desk.proofs.Bound.{kept-summed}
 use Rattle.engine.proofs.Boards.{board-long, board-unfit, board-unsound, board-apart}
 use Rattle.engine.proofs.sound_board.Statement.{statement}
 use Rattle.engine.proofs.sound_board.Tie as tie
@@ -13,7 +14,7 @@ returns-2 c =
     let long : length (s .args .b .calls) ≡ 64 = search mapped-long in
     let w = c .before .before .before .before .before in
     board-apart (s .args .b) (omega arith) long (c .before .before .before .summed .result) (w .all-sound .result) (c .apart .result)
-    (c .before .before .before .summed .ensures) (w .all-sound .ensures) (c .before .before .before .before .if3 .taken) (w .before .if2 .taken) (c .apart .ensures)
+    (kept-summed _ _ (c .before .before .before .summed .ensures)) (w .all-sound .ensures) (c .before .before .before .before .if3 .taken) (w .before .if2 .taken) (c .apart .ensures)
 
 returns-3 : tie.Need-returns-3
 returns-3 c =

@@ -3,6 +3,7 @@ use native.Mathlib.Omega.{arith}
 use lib.ListN.{length}
 use Rattle.ground.proofs.Walks.{mapped-long}
 use Rattle.engine.specs.Board.{Passed}
+use Rattle.desk.proofs.Bound.{kept-summed}
 use Rattle.engine.proofs.Steps.{early-step, ill-step}
 use borrow.Author.Needs.{needs}
 use Rattle.engine.proofs.step_tested.Statement.{statement}
@@ -25,7 +26,7 @@ opening-requires c κs =
     let s = c .before .before .before .before .before .before .before in
     let long : length (s .args .b .calls) ≡ 64 = search (mapped-long, s .good .0 .1 .1 .1) in
     let p : Passed (s .args .b) (c .before .summed .result) (s .args .e) =
-    record { short = s .pre; long = long; kept = c .before .summed .ensures; late = c .before .before .before .before .if1 .left; made = sym (c .before .before .before .well-made .ensures) ∙ c .before .before .if2 .taken } in
+    record { short = s .pre; long = long; kept = kept-summed _ _ (c .before .summed .ensures); late = c .before .before .before .before .if1 .left; made = sym (c .before .before .before .well-made .ensures) ∙ c .before .before .if2 .taken } in
     (p, c .if3 .taken)
 
 returns-2 : tie.Need-returns-2
@@ -36,7 +37,7 @@ ticking-requires c κs =
     let s = c .before .before .before .before .before .before .before .before in
     let long : length (s .args .b .calls) ≡ 64 = search (mapped-long, s .good .0 .1 .1 .1) in
     let p : Passed (s .args .b) (c .before .before .summed .result) (s .args .e) =
-    record { short = s .pre; long = long; kept = c .before .before .summed .ensures; late = c .before .before .before .before .before .if1 .left; made = sym (c .before .before .before .before .well-made .ensures) ∙ c .before .before .before .if2 .taken } in
+    record { short = s .pre; long = long; kept = kept-summed _ _ (c .before .before .summed .ensures); late = c .before .before .before .before .before .if1 .left; made = sym (c .before .before .before .before .well-made .ensures) ∙ c .before .before .before .if2 .taken } in
     (p, c .if4 .taken)
 
 returns-3 : tie.Need-returns-3
@@ -47,7 +48,7 @@ naming-requires c κs =
     let s = c .before .before .before .before .before .before .before .before in
     let long : length (s .args .b .calls) ≡ 64 = search (mapped-long, s .good .0 .1 .1 .1) in
     let p : Passed (s .args .b) (c .before .before .summed .result) (s .args .e) =
-    record { short = s .pre; long = long; kept = c .before .before .summed .ensures; late = c .before .before .before .before .before .if1 .left; made = sym (c .before .before .before .before .well-made .ensures) ∙ c .before .before .before .if2 .taken } in
+    record { short = s .pre; long = long; kept = kept-summed _ _ (c .before .before .summed .ensures); late = c .before .before .before .before .before .if1 .left; made = sym (c .before .before .before .before .well-made .ensures) ∙ c .before .before .before .if2 .taken } in
     (p, c .before .if3 .left, c .if4 .left)
 
 returns-4 : tie.Need-returns-4
