@@ -1,7 +1,6 @@
-//! The other functions of the library, by each archive, and the C host.
+//! The other functions of the library, by each archive.
 #![forbid(unsafe_code)]
 
-use compare::engine::host;
 use compare::wire::Ran;
 use compare::{hostile, Archive, Board, Engine};
 use model::random::Random;
@@ -109,14 +108,4 @@ fn runs_of_every_profile() {
             }
         }
     });
-}
-
-#[test]
-fn the_c_host_prints_the_nine_lines() {
-    let lines = std::fs::read_to_string(host("vectors/nine.txt")).expect("the nine lines");
-    for &archive in Archive::all() {
-        let ran = archive.program("lent").output().expect("it starts");
-        assert!(ran.status.success());
-        assert_eq!(String::from_utf8_lossy(&ran.stdout), lines);
-    }
 }
