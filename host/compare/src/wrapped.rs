@@ -23,7 +23,7 @@ pub fn lend(laid: &Laid) -> Told {
 pub fn plain(station: &whipsail::Station) -> Station {
     Station {
         last_time: station.last(),
-        next_identifier: station.next(),
+        next_identifier: station.next_identifier(),
         limit: station.limit(),
     }
 }

@@ -51,7 +51,7 @@ impl Station {
     }
 
     /// The identifier that the next request takes, unless an open one has it.
-    pub const fn next(&self) -> u16 {
+    pub const fn next_identifier(&self) -> u16 {
         self.next
     }
 
