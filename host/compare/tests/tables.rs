@@ -19,7 +19,7 @@ use whipsail::{Call, Event};
 
 /// Threads, rounds of each and cases of a round.
 const THREADS: u64 = 2;
-const ROUNDS: u64 = 150;
+const ROUNDS: u64 = 180;
 const CASES: usize = 4_000;
 /// Base tables of which every edge of every field is tried.
 const BASES: u64 = 60;
