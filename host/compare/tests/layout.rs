@@ -181,10 +181,10 @@ fn touched(body: &str) -> Vec<(usize, BTreeSet<(usize, usize)>)> {
     pieces.into_values().collect()
 }
 
-/// A function that stores or copies each field of a struct by itself. None has
-/// one for the two structs of the lent entry: there some function touches every
-/// field, perhaps in parts, and nothing across two fields.
-const PLACES: [(&str, &str); 12] = [
+/// A function that stores or copies each field of a struct by itself. Structs of
+/// structs have none: of those some function touches every field, perhaps in
+/// parts, and nothing across two fields.
+const PLACES: [(&str, &str); 9] = [
     ("event", "whipsail::no_event"),
     ("dli1", "call::free_call"),
     ("history", "call::free_call"),
@@ -194,9 +194,6 @@ const PLACES: [(&str, &str); 12] = [
     ("answer", "station::empty_answer"),
     ("made", "station::fresh"),
     ("read", "whipsail::no_event"),
-    ("board", "runs::run_tested"),
-    ("stepped", "engine::refused"),
-    ("ran", "runs::run"),
 ];
 
 type Places = BTreeSet<(usize, usize)>;
