@@ -60,6 +60,19 @@ fn time(entry: Entry, work: &Workload) -> f64 {
     began.elapsed().as_nanos() as f64 / work.events.len() as f64
 }
 
+/// Both engines make the same tests of a table.
+fn refuse_alike(work: &Workload) {
+    let event = &work.events[0];
+    for mut ours in work.damaged() {
+        let (mut theirs, mut our_station, mut their_station) =
+            (ours.clone(), work.station, work.station);
+        let our_answer = library::step(&mut ours, &mut our_station, event);
+        let their_answer = plain::lent::step(&mut theirs, &mut their_station, event);
+        assert_eq!(our_answer, their_answer, "{}: {ours:?}", work.name);
+        assert_eq!((ours, our_station), (theirs, their_station));
+    }
+}
+
 /// Both engines give the same answers and leave the same table.
 fn agree(work: &Workload) {
     let (mut ours, mut our_station) = (work.table.clone(), work.station);
@@ -105,6 +118,7 @@ fn print_line(name: &str, [ours, theirs]: [f64; 2]) {
 fn print_times(rounds: usize) {
     let works = workload::all(TIMED);
     works.iter().for_each(agree);
+    works.iter().for_each(refuse_alike);
     let record = size_of::<Call>();
     println!(
         "a record: {record} bytes of both; a table of 64: {}",

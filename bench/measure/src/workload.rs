@@ -3,6 +3,7 @@
 use model::codes::*;
 use model::profile::{Profile, Walk};
 use model::random::Random;
+use model::record::FIELDS;
 use model::{Record, Station};
 use plain::call::Call;
 use plain::event::Event;
@@ -10,6 +11,7 @@ use plain::event::Event;
 /// A table in use, its station and events for them.
 pub struct Workload {
     pub name: &'static str,
+    records: Vec<Record>,
     pub table: Vec<Call>,
     pub station: plain::station::Station,
     pub events: Vec<Event>,
@@ -116,6 +118,7 @@ fn made(
     let (records, _) = bytes.as_chunks();
     Workload {
         name,
+        records: table.to_vec(),
         table: table.iter().map(call).collect(),
         station: plain::station::Station {
             last: station.last_time,
@@ -124,6 +127,23 @@ fn made(
         },
         events: records.iter().map(Event::decode).collect(),
         bytes,
+    }
+}
+
+impl Workload {
+    /// The table with one bit of one record turned over, for every bit.
+    pub fn damaged(&self) -> impl Iterator<Item = Vec<Call>> + '_ {
+        let bits = FIELDS.into_iter().enumerate();
+        let bits = bits.flat_map(|(field, (_, width))| (0..width).map(move |bit| (field, bit)));
+        bits.flat_map(move |(field, bit)| {
+            (0..self.records.len()).map(move |at| {
+                let mut values = self.records[at].values();
+                values[field] ^= 1 << bit;
+                let mut table = self.table.clone();
+                table[at] = call(&Record::from_values(&values));
+                table
+            })
+        })
     }
 }
 

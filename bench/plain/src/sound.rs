@@ -69,7 +69,9 @@ impl Call {
         };
         let history = match self.seen {
             0 => self.strictest | self.forbidden | self.shown == 0 && self.nominated == 0,
-            1 => self.strictest <= 2 && self.forbidden <= 1 && self.shown <= 1 && self.nominated != 0,
+            1 => {
+                self.strictest <= 2 && self.forbidden <= 1 && self.shown <= 1 && self.nominated != 0
+            }
             _ => return false,
         };
         waiting

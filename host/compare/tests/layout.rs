@@ -18,6 +18,9 @@ type Field = (String, usize, usize);
 /// A struct's size, and its fields in order.
 type Layout = (usize, Vec<Field>);
 
+/// Offsets and widths.
+type Places = BTreeSet<(usize, usize)>;
+
 /// The structs of the header, in lower case.
 fn header(archive: Archive) -> BTreeMap<String, Layout> {
     let ran = archive.program("layout").output().expect("it starts");
@@ -143,13 +146,13 @@ fn register<'a>(line: &'a str, mark: &str) -> Option<&'a str> {
 
 /// For each piece of memory of a function, by its size, the places that are
 /// stored to, loaded, or copied from and to, as offset and width.
-fn touched(body: &str) -> Vec<(usize, BTreeSet<(usize, usize)>)> {
-    let mut pieces: BTreeMap<&str, (usize, BTreeSet<(usize, usize)>)> = BTreeMap::new();
+fn touched(body: &str) -> Vec<(usize, Places)> {
+    let mut pieces: BTreeMap<&str, (usize, Places)> = BTreeMap::new();
     let mut within: BTreeMap<&str, (&str, usize)> = BTreeMap::new();
     for line in body.lines().map(str::trim) {
         let target = line.split(" = ").next().unwrap_or_default();
         if let Some(size) = number_after(line, " = alloca [") {
-            pieces.insert(target, (size, BTreeSet::new()));
+            pieces.insert(target, (size, Places::new()));
             within.insert(target, (target, 0));
         } else if let Some(base) = register(line, " = getelementptr i8, ptr ") {
             if let Some(&(piece, at)) = within.get(base) {
@@ -195,8 +198,6 @@ const PLACES: [(&str, &str); 9] = [
     ("made", "station::fresh"),
     ("read", "whipsail::no_event"),
 ];
-
-type Places = BTreeSet<(usize, usize)>;
 
 /// Each field is touched, and nothing across two.
 fn touches_each(places: &Places, fields: &Places) -> bool {
