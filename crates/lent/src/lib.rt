@@ -33,9 +33,9 @@ pub fn settle(table: &mut [Call], place: usize, count: usize, c: Call)
     requires { ⌜ place + count ≤ length (now table) ⌝ }
     ensures { λ _. ⌜ now (table .exit) ≡ settledAt place count c (now (table .entry)) ⌝ }
 {
-    let mut i = 0;
-    while i < count {
-        table[place + i] = c;
-        i += 1;
+    let mut j = 0;
+    while j < count {
+        table[place + j] = c;
+        j += 1;
     }
 }

@@ -31,7 +31,7 @@ use denote.RattleType.{owns}
 use denote.Shadow.{pureI}
 use denote.Laws.{Is, shows}
 use denote.Plain.{uint-vals, uint-tells, uint-makes}
-use denote.Ref.{RefT, now}
+use denote.Ref.{RefT}
 use denote.Slice.{sliceVal, ShrSlice, Room, heres, codedHoleys, at-slice, slice-vals, shr-slice-tells}
 use types.Share.{arr-parts}
 use denote.Memory.{shares}
@@ -229,8 +229,8 @@ module _ {M : Type 1} (𝓤 : URA M) (H : Heap 𝓤) (A : Atoms 𝓤) (W : Given
 module _ {M : Type 1} (𝓤 : URA M) (H : Heap 𝓤) (A : Atoms 𝓤) (W : Given 𝓤 H A) (mem : Memory → SProp 𝓤) (run : Routine → Fun 𝓤) (𝓣 : Tables 𝓤 H) (known-free : Triple 𝓤 (𝓣 .C free-def.name) (Free 𝓤 H A mem run)) where
   load-walks : Walks 𝓤 H A load′.ended stayed (WpFn 𝓤 H (𝓣 .C) (𝓣 .Λ) code.function) (load′.clauses 𝓤 H A mem run)
   load-walks = walked 𝓤 H A load′.ended stayed (load′.clauses 𝓤 H A mem run) (WpFn 𝓤 H (𝓣 .C) (𝓣 .Λ) code.function) (λ κs. (slice-vals, (uint-vals w64, tt))) (λ κs. (shr-slice-tells (named 0) (κs .0) R, (uint-tells w64, tt)))
-      (λ κs qs bounds a g are. needs 𝓤 ((a .1 .0 ≤ length (now (a .0))) × (a .1 .0 ≤ cap)) _ (λ short.
-      walk 𝓤 H A W mem run (κs .0) (qs .0) (a .0 .ptr .0) (a .0 .ptr .1) (a .0 .name) (a .0 .now) (a .1 .0) (are .1 .0 .1) (are .0 .0 .1) short 𝓣 (fmOf 𝓤 H (W .laws) 𝓣) known-free))
+      (λ κs qs bounds a g are. needs 𝓤 _ _ (λ short.
+      walk 𝓤 H A W mem run (κs .0) (qs .0) (a .0 .ptr .0) (a .0 .ptr .1) (a .0 .name) (a .0 .now) (a .1 .0) (are .1 .0 .1) (are .0 .0 .1) (omega (arith, short .0), omega (arith, short .1)) 𝓣 (fmOf 𝓤 H (W .laws) 𝓣) known-free))
 
   load-meets : Meets 𝓤 H A load′.signature (WpFn 𝓤 H (𝓣 .C) (𝓣 .Λ) code.function) (load′.spec 𝓤 H A mem run)
   load-meets = walk-meets 𝓤 H A load′.ended stayed W (goes-none-slice 𝓤 H A W 1 (0 ∷ []) tt (plain (λ _. R)) yes, (goes-none 𝓤 H A W 1 (λ _. usize) yes (λ κs x f. refl), tt))

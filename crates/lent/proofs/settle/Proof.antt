@@ -30,7 +30,7 @@ use denote.RattleType.{owns}
 use denote.Shadow.{pureI}
 use denote.Laws.{Is, shows}
 use denote.Plain.{uint-vals, uint-tells, uint-makes}
-use denote.Ref.{RefT, now}
+use denote.Ref.{RefT}
 use denote.Slice.{sliceVal, MutSlice, Room, heres, codedHoleys, at-slice, slice-vals, mut-slice-tells}
 use denote.Lend.{Held}
 use denote.Index.{row, place-is, elem-out, elem-put, opens-slice, closes-slice}
@@ -176,8 +176,8 @@ module _ {M : Type 1} (𝓤 : URA M) (H : Heap 𝓤) (A : Atoms 𝓤) (W : Given
 module _ {M : Type 1} (𝓤 : URA M) (H : Heap 𝓤) (A : Atoms 𝓤) (W : Given 𝓤 H A) (mem : Memory → SProp 𝓤) (run : Routine → Fun 𝓤) (𝓣 : Tables 𝓤 H) where
   settle-walks : Walks 𝓤 H A settle′.ended stayed (WpFn 𝓤 H (𝓣 .C) (𝓣 .Λ) code.function) (settle′.clauses 𝓤 H A mem run)
   settle-walks = walked 𝓤 H A settle′.ended stayed (settle′.clauses 𝓤 H A mem run) (WpFn 𝓤 H (𝓣 .C) (𝓣 .Λ) code.function) (λ κs. (slice-vals, (uint-vals w64, (uint-vals w64, (vals, tt))))) (λ κs. (mut-slice-tells (named 0) (κs .0) R, (uint-tells w64, (uint-tells w64, (tells, tt)))))
-      (λ κs qs bounds a g are. needs 𝓤 (a .1 .0 + a .1 .1 .0 ≤ length (now (a .0))) _ (λ short.
-      walk 𝓤 H A W mem run (κs .0) (qs .0) (a .0 .ptr .0) (a .0 .ptr .1) (a .0 .name) (a .0 .now) (a .1 .0) (a .1 .1 .0) (a .1 .1 .1 .0) (are .1 .0 .1) (are .1 .1 .0 .1) (are .1 .1 .1 .0) (are .0 .0 .1) short 𝓣))
+      (λ κs qs bounds a g are. needs 𝓤 _ _ (λ short.
+      walk 𝓤 H A W mem run (κs .0) (qs .0) (a .0 .ptr .0) (a .0 .ptr .1) (a .0 .name) (a .0 .now) (a .1 .0) (a .1 .1 .0) (a .1 .1 .1 .0) (are .1 .0 .1) (are .1 .1 .0 .1) (are .1 .1 .1 .0) (are .0 .0 .1) (omega (arith, short)) 𝓣))
 
   settle-meets : Meets 𝓤 H A settle′.signature (WpFn 𝓤 H (𝓣 .C) (𝓣 .Λ) code.function) (settle′.spec 𝓤 H A mem run)
   settle-meets = walk-meets 𝓤 H A settle′.ended stayed W (goes-slice 𝓤 H A W 1 0 tt (plain (λ _. R)), (goes-none 𝓤 H A W 1 (λ _. usize) yes (λ κs x f. refl), (goes-none 𝓤 H A W 1 (λ _. usize) yes (λ κs x f. refl), (goes-none 𝓤 H A W 1 (λ _. R) yes (λ κs x f. refl), tt))))
