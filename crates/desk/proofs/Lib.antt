@@ -1,3 +1,4 @@
 pub mod Mask
 pub mod Kept
 pub mod Held
+pub mod Bound

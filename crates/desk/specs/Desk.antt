@@ -1,5 +1,5 @@
 -- What a run keeps beside its table.
-use Prim.Native.Nat.{ℕ, zero, suc, _+_}
+use Prim.Native.Nat.{ℕ, zero, suc, _+_, min}
 use mathlib.Core.Path.{_≡_}
 use mathlib.Core.Bool.{Bool, true}
 use mathlib.Core.List.{List, [], _∷_, map}
@@ -32,6 +32,15 @@ atLeast m d = leb m d
 abbrev pub under : ℕ → ℕ → Bool
 under time d = ltb d time
 
+-- the least of a column; never where it is empty
+unfoldable pub soonestOf : List ℕ → ℕ
+soonestOf [] = never
+soonestOf (d ∷ rest) = min d (soonestOf rest)
+
+-- the bound, found anew where it has passed
+abbrev pub refreshedOf : ℕ → List ℕ → ℕ → ℕ
+refreshedOf soon dues time = when ltb soon time then soonestOf dues else soon
+
 -- the first of so many candidates that the column doesn't hold; where it holds all, the one after them
 unfoldable pub firstFreeIn : ℕ → List ℕ → ℕ → ℕ
 firstFreeIn zero held candidate = candidate
@@ -43,7 +52,16 @@ firstFreeIn (suc more) held candidate =
 abbrev pub frees : List Call
 frees = replicate 64 freeCall
 
--- what is kept is what the records say
+-- what records come to, summed up
+unfoldable pub deskOf : List Call → Desk
+deskOf calls = record {
+  free = maskOf isFree calls;
+  soon = soonestOf (map quietUntil calls);
+  dues = map quietUntil calls;
+  held = map heldBy calls;
+}
+
+-- what is kept from event to event: as summed up, but that the bound may lie below the least
 pub record Kept (calls : List Call) (d : Desk) : Type 0 where
   pub mask : d .free ≡ maskOf isFree calls
   pub column : d .dues ≡ map quietUntil calls

@@ -2,14 +2,13 @@
 // which identifiers are held. Places past the lent length count as free records.
 ghost use mathlib.Core.Path.{_≡_};
 ghost use mathlib.Core.Bool.{true};
-ghost use Prim.Native.Nat.{ℕ, _+_, _-_, _^_, _≤_, _<_};
+ghost use Prim.Native.Nat.{_+_, _-_, _^_, _≤_, _<_, min};
 ghost use lib.ListN.{length};
 ghost use lib.Dec.{eqb};
 ghost use lib.Count.{trailingZeros};
-ghost use Rattle.ground.specs.Lists.{first, all, any};
-ghost use Rattle.identifier.specs.Identifier.{firstFree};
+ghost use Rattle.ground.specs.Lists.{first, all};
 ghost use Rattle.desk.specs.Mask.{weigh, over};
-ghost use Rattle.desk.specs.Desk.{heldBy, quietUntil, atLeast, under, frees, firstFreeIn, Kept};
+ghost use Rattle.desk.specs.Desk.{heldBy, quietUntil, atLeast, under, soonestOf, refreshedOf, frees, firstFreeIn, deskOf};
 use call::Call;
 
 pub struct Desk {
@@ -19,7 +18,7 @@ pub struct Desk {
     pub held: [u32; 64],
 }
 
-pub fn bit(i: usize) -> u64
+fn bit(i: usize) -> u64
     requires { ⌜ i < 64 ⌝ }
     ensures { λ r. ⌜ r ≡ 2 ^ i ⌝ }
 {
@@ -79,11 +78,12 @@ pub fn quiet_until(c: Call) -> u64
 }
 
 pub fn sooner(a: u64, b: u64) -> u64
-    ensures { λ r. ⌜ (r ≤ a) × (r ≤ b) ⌝ }
+    ensures { λ r. ⌜ r ≡ min a b ⌝ }
 {
     if a < b { a } else { b }
 }
 
+// The lowest place whose time has passed; 64 where none has.
 pub fn first_past(dues: &[u64; 64], time: u64) -> usize
     requires { ⌜ length (now dues) ≡ 64 ⌝ }
     ensures { λ r. ⌜ r ≡ first (under time) (now (dues .entry)) ⌝ }
@@ -98,9 +98,10 @@ pub fn first_past(dues: &[u64; 64], time: u64) -> usize
     64
 }
 
-pub fn soonest(dues: &[u64; 64]) -> u64
+// The least of the column.
+fn soonest(dues: &[u64; 64]) -> u64
     requires { ⌜ length (now dues) ≡ 64 ⌝ }
-    ensures { λ r. ⌜ all (atLeast r) (now (dues .entry)) ≡ true ⌝ }
+    ensures { λ r. ⌜ r ≡ soonestOf (now (dues .entry)) ⌝ }
 {
     let mut m: u64 = 18446744073709551615;
     let mut i: usize = 0;
@@ -111,10 +112,10 @@ pub fn soonest(dues: &[u64; 64]) -> u64
     m
 }
 
-// The bound found anew where it has passed.
+// A bound below every time of the column, found anew where it has passed.
 pub fn refresh(soon: u64, dues: &[u64; 64], time: u64) -> u64
-    requires { ⌜ (length (now dues) ≡ 64) × (all (atLeast soon) (now dues) ≡ true) ⌝ }
-    ensures { λ r. ⌜ all (atLeast r) (now (dues .entry)) ≡ true ⌝ }
+    requires { ⌜ length (now dues) ≡ 64 ⌝ }
+    ensures { λ r. ⌜ r ≡ refreshedOf soon (now (dues .entry)) time ⌝ }
 {
     if soon < time { soonest(dues) } else { soon }
 }
@@ -160,7 +161,7 @@ pub fn draw(held: &[u32; 64], next: u16) -> u16
 // What is kept of the first len records.
 pub fn summed(calls: [Call; 64], len: usize) -> Desk
     requires { ⌜ len ≤ 64 ⌝ }
-    ensures { λ r. ⌜ Kept (over len calls frees) r ⌝ }
+    ensures { λ r. ⌜ r ≡ deskOf (over len calls frees) ⌝ }
 {
     let mut free: u64 = 18446744073709551615;
     let mut soon: u64 = 18446744073709551615;

@@ -5,7 +5,8 @@ use mathlib.Core.List.{List, [], _∷_, _++_, map}
 use mathlib.Core.Path.{_≡_, refl, sym, ap, _∙_}
 use native.Mathlib.Nat.{le-of-suc-le-suc, not-suc-le-zero}
 use native.Mathlib.Omega.{arith}
-use borrow.Author.Tests.{lt-ltb, le-ltb, le-leb}
+use borrow.Author.Tests.{le-ltb, ltb-false, eqb-false}
+use Rattle.ground.proofs.Bools.{by-cases}
 use lib.Dec.{ltb, leb, eqb}
 use lib.ListN.{length, getD, set, take, drop, length-take, take-append-drop}
 use Rattle.ground.specs.Lists.{all, any}
@@ -17,45 +18,26 @@ use Rattle.call.specs.declared.Effect.{Effect}
 use Rattle.station.specs.Station.{emptyAnswer}
 use Rattle.station.specs.Table.{requestsOf, sound}
 use Rattle.station.specs.Step.{refused, noneDue, settled, answerOf, nextAfter}
-use Rattle.desk.specs.declared.Desk.{Desk}
-use Rattle.desk.specs.Mask.{over}
-use Rattle.desk.specs.Desk.{Kept, frees}
-use Rattle.desk.proofs.Held.{requests-over}
 use Rattle.engine.specs.declared.Board.{Board}
-use Rattle.engine.specs.Board.{lent, putBack, soundBoard, apartIn}
-use Rattle.engine.proofs.Columns.{apart-distinct}
+use Rattle.decide.specs.declared.Decision.{Decision}
+use Rattle.decide.specs.Decided.{outcomeOf}
+use Rattle.decide.proofs.Tested.{bounds, short, soundRecords, sound-parts}
+use Rattle.engine.specs.Board.{lent, putBack, soundBoard, appliedTo}
 
 pub lent-length : (b : Board) → b .len ≤ 64 → length (b .calls) ≡ 64 → length (lent b) ≡ b .len
 lent-length b h e = omega (arith, length-take (b .len) (b .calls))
 
 -- the test behind number 1, in the order of the code
-regrouped : (a b c x : Bool) → (a && true) && (b && c) && x ≡ a && b && c && x
-regrouped true true c x = refl
-regrouped true false c x = refl
-regrouped false b c x = refl
+pub board-tested : (b : Board) (t r : Bool) → length (b .calls) ≡ 64 → t ≡ bounds (b .len) (b .station .limit) → t ≡ true
+    → r ≡ soundRecords (b .station .last) (lent b) → r ≡ soundBoard b
+board-tested b t r e q z p =
+    let h = short (b .len) (b .station .limit) t q z in
+    sym (rw (le-ltb 64 (b .len) h) (sound-parts (b .station) (b .calls) (b .len) h e ∙ rw (← q, z, ← p)))
 
-pub board-tests : (b : Board) → b .len ≤ 64 → length (b .calls) ≡ 64
-    → soundBoard b ≡ (leb 1 (b .len) && leb 1 (b .station .limit) && leb (b .station .limit) 15) && (all (soundCall (b .station .last)) (lent b) && distinct (requestsOf (lent b)))
-unfolding sound
-board-tests b h e =
-    rw (le-ltb 64 (b .len) h, lent-length b h e, le-leb (b .len) 64 h)
-    (regrouped (leb 1 (b .len)) (leb 1 (b .station .limit)) (leb (b .station .limit) 15) (all (soundCall (b .station .last)) (lent b) && distinct (requestsOf (lent b))))
-
-pub board-long : (b : Board) → 64 < b .len → false ≡ soundBoard b
-board-long b h = rw (lt-ltb 64 (b .len) h)
-
-module _ (b : Board) (h : b .len ≤ 64) (e : length (b .calls) ≡ 64) where
-  pub board-unfit : leb 1 (b .len) && leb 1 (b .station .limit) && leb (b .station .limit) 15 ≡ false → false ≡ soundBoard b
-  board-unfit q = sym (board-tests b h e ∙ rw q)
-
-  pub board-unsound : (t : Bool) → t ≡ all (soundCall (b .station .last)) (lent b) → t ≡ false
-      → leb 1 (b .len) && leb 1 (b .station .limit) && leb (b .station .limit) 15 ≡ true → false ≡ soundBoard b
-  board-unsound t p z q = sym (board-tests b h e ∙ rw (q, ← p, z))
-
-  pub board-apart : (d : Desk) (t r : Bool) → Kept (over (b .len) (b .calls) frees) d → t ≡ all (soundCall (b .station .last)) (lent b) → t ≡ true
-      → leb 1 (b .len) && leb 1 (b .station .limit) && leb (b .station .limit) 15 ≡ true → r ≡ apartIn (d .held) → r ≡ soundBoard b
-  board-apart d t r k p z q a =
-      a ∙ rw (k .idents) (apart-distinct (over (b .len) (b .calls) frees) ∙ ap distinct (requests-over (b .len) (b .calls)) ∙ sym (board-tests b h e ∙ rw (q, ← p, z)))
+pub board-unfit : (b : Board) (t : Bool) → length (b .calls) ≡ 64 → t ≡ bounds (b .len) (b .station .limit) → t ≡ false → false ≡ soundBoard b
+board-unfit b t e q z =
+    by-cases (ltb 64 (b .len)) (λ l. rw l) (λ l.
+    sym (rw l (sound-parts (b .station) (b .calls) (b .len) (ltb-false 64 (b .len) l) e ∙ rw (← q, z))))
 
 -- a list with one of its first elements replaced
 set-beginning : {A : Type 0} (n : ℕ) (l : List A) (i : ℕ) (x : A) → i < n → set (take n l) i x ++ drop n l ≡ set l i x
@@ -77,3 +59,10 @@ pub back-settled : (b : Board) (e : Event) (i next : ℕ) (x : Effect) → i < b
     → record { answer = answerOf i x; board = record { station = record { last = e .time; next = next; limit = b .station .limit }; len = b .len; calls = set (b .calls) i (x .call) } }
     ≡ putBack b (settled (b .station) (lent b) e i x)
 back-settled b e i next x h q = rw (set-beginning (b .len) (b .calls) i (x .call) h, q)
+
+-- a decision about the lent table, as the array holds it
+pub back-applied : (b : Board) (d : Decision) → d .place + d .count ≤ b .len → appliedTo b d ≡ putBack b (outcomeOf (lent b) d)
+back-applied b d h =
+    by-cases (eqb (d .count) 0)
+    (λ z. rw (z, take-append-drop (b .len) (b .calls)))
+    (λ n. let m = eqb-false (d .count) 0 n in rw (n, set-beginning (b .len) (b .calls) (d .place) (d .call) (omega arith)))

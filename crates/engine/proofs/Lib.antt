@@ -1,6 +1,4 @@
-pub mod Columns
 pub mod Boards
-pub mod Sorts
 pub mod Through
 pub mod Found
 pub mod Steps

@@ -20,17 +20,20 @@ use Rattle.call.specs.declared.Effect.{Effect}
 use Rattle.call.specs.Record.{freeCall, isFree}
 use Rattle.call.specs.Incoming.{due, expired}
 use Rattle.call.specs.Act.{act, opened}
-use Rattle.call.specs.State.{stateForbids}
 use Rattle.station.specs.declared.Station.{Station}
 use Rattle.station.specs.Table.{at, identifierFor, sound}
-use Rattle.station.specs.Refusals.{wrongCall, otherIdentifier, overLimit, refusal}
+use Rattle.station.specs.Refusals.{refusal}
 use Rattle.station.specs.Step.{nextAfter, byNumber, step, stepOnSound}
 use Rattle.desk.specs.declared.Desk.{Desk}
 use Rattle.desk.specs.Desk.{under, never}
 use Rattle.engine.specs.declared.Board.{Board}
-use Rattle.engine.specs.Board.{lent, putBack, soundBoard, stepBoard, stepSoundBoard, namedRefusal, settledBoard, idleBoard, refusedBoard, identifierIn, nextWith, Passed}
-use Rattle.engine.proofs.Boards.{back-refused, back-none, back-settled}
-use Rattle.engine.proofs.Sorts.{act-other}
+use Rattle.engine.specs.Board.{lent, putBack, soundBoard, stepBoard, stepSoundBoard, settledBoard, idleBoard, refusedBoard, identifierIn, appliedTo, Passed}
+use Rattle.decide.specs.declared.Input.{Input}
+use Rattle.decide.specs.declared.Decision.{Decision}
+use Rattle.decide.specs.Decided.{namedRefusal, nextWith, decidedOf, decidedOnSound, decidedIn}
+use Rattle.decide.proofs.Stepped.{decided-step, decided-step-on-sound, decided-within, decided-within-on-sound}
+use Rattle.engine.proofs.Boards.{back-refused, back-none, back-settled, back-applied}
+use Rattle.decide.proofs.Sorts.{act-other}
 use Rattle.engine.proofs.Through.{through-early, through-ill, through-full, through-opened, through-none, through-ended, through-outside, through-refused, through-done}
 use Rattle.engine.proofs.Found.{lent-long, lent-at, found-free, none-free, found-due, none-due, found-identifier}
 
@@ -108,23 +111,6 @@ module _ (b : Board) (d : Desk) (e : Event) (p : Passed b d e) where
           ∙ ap (putBack b)
           (through-done (b .station) (lent b) e (p .late) (p .made) r (named r q) k n (omega (arith, lent-long (b .len) (b .calls) (p .short) (p .long))) z))
 
--- a divert that is not refused is within the limit, so its counter has room for one more
-abbrev numbered : Bool → Bool → Bool → Bool → ℕ
-numbered a b c d = when a then 4 else when b then 5 else when c then 6 else when d then 7 else 0
-
-last-test : (a b c d : Bool) → numbered a b c d ≡ 0 → d ≡ false
-last-test true b c d q = absurd (omega (arith, q))
-last-test false true c d q = absurd (omega (arith, q))
-last-test false false true d q = absurd (omega (arith, q))
-last-test false false false true q = absurd (omega (arith, q))
-last-test false false false false q = refl
-
-pub room : (s : Station) (c : Call) (e : Event) (r : ℕ) → r ≡ namedRefusal s c e → r ≡ 0 → s .limit < 256 → e .kind ≡ 6 → c .counter < 255
-room s c e r q z l k =
-    let o = last-test (wrongCall c e) (stateForbids c e) (otherIdentifier c e) (overLimit s c e) (sym q ∙ z) in
-    let m = ltb-false (s .limit) (c .counter + 1) (rw k at o) in
-    omega arith
-
 -- a step on a board that was tested
 pub tested-step : (b : Board) (e : Event) → soundBoard b ≡ true → stepSoundBoard b e ≡ stepBoard b e
 unfolding step stepOnSound refusal
@@ -141,3 +127,32 @@ unsound-step b e h =
     by-cases (ltb 64 (b .len)) (λ l. rw l) (λ l.
     let z : sound (b .station) (lent b) ≡ false = rw l at h in
     rw (l, z) (back-refused b 1))
+
+-- a decision about the lent table, put into the array, is the step
+module _ (b : Board) (e : Event) (long : length (b .calls) ≡ 64) where
+  abbrev input : Input
+  input = record { station = b .station; event = e }
+
+  module _ (h : b .len ≤ 64) where
+    lent-within : (d : Decision) → d .place + d .count ≤ length (lent b) → d .place + d .count ≤ b .len
+    lent-within d w = omega (arith, w, lent-long (b .len) (b .calls) h long)
+
+    pub fits-step-on-sound : decidedOnSound (b .station) (lent b) e .place + decidedOnSound (b .station) (lent b) e .count ≤ 64
+    fits-step-on-sound = omega (arith, lent-within (decidedOnSound (b .station) (lent b) e) (decided-within-on-sound (b .station) (lent b) e))
+
+    pub applied-step-on-sound : appliedTo b (decidedOnSound (b .station) (lent b) e) ≡ stepSoundBoard b e
+    applied-step-on-sound =
+        back-applied b (decidedOnSound (b .station) (lent b) e) (lent-within (decidedOnSound (b .station) (lent b) e) (decided-within-on-sound (b .station) (lent b) e))
+        ∙ ap (putBack b) (decided-step-on-sound (b .station) (lent b) e)
+
+  pub fits-step : decidedIn (b .calls) (b .len) input .place + decidedIn (b .calls) (b .len) input .count ≤ 64
+  fits-step =
+      by-cases (ltb 64 (b .len)) (λ l. rw l (omega arith)) (λ l.
+      rw l (omega (arith, ltb-false 64 (b .len) l, lent-within (ltb-false 64 (b .len) l) (decidedOf (b .station) (lent b) e) (decided-within (b .station) (lent b) e))))
+
+  pub applied-step : appliedTo b (decidedIn (b .calls) (b .len) input) ≡ stepBoard b e
+  applied-step =
+      by-cases (ltb 64 (b .len)) (λ l. rw l) (λ l.
+      rw l (
+      back-applied b (decidedOf (b .station) (lent b) e) (lent-within (ltb-false 64 (b .len) l) (decidedOf (b .station) (lent b) e) (decided-within (b .station) (lent b) e))
+      ∙ ap (putBack b) (decided-step (b .station) (lent b) e)))

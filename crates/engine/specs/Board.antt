@@ -1,24 +1,23 @@
 -- How the code holds a lent table: an array of 64 records of which the first `len` are lent. It stands for the list of those; the rest of the array is none of the table.
 use Prim.Native.Nat.{ℕ, _≤_}
 use mathlib.Core.Path.{_≡_}
-use mathlib.Core.Bool.{Bool, true, false, _&&_, _||_, not}
-use mathlib.Core.List.{List, [], _∷_, _++_}
-use lib.Dec.{ltb, eqb}
+use mathlib.Core.Bool.{Bool, true, _&&_, not}
+use mathlib.Core.List.{List, _++_}
+use lib.Dec.{ltb}
 use lib.ListN.{length, take, drop, set}
 use Rattle.ground.specs.Choice.{when_then_else_}
-use Rattle.ground.specs.Lists.{any}
 use Rattle.event.specs.declared.Event.{Event}
 use Rattle.event.specs.Kinds.{diverts}
 use Rattle.event.specs.WellMade.{wellMade}
-use Rattle.identifier.specs.Identifier.{after, candidates}
+use Rattle.identifier.specs.Identifier.{candidates}
 use Rattle.call.specs.declared.Call.{Call}
 use Rattle.call.specs.declared.Effect.{Effect}
-use Rattle.call.specs.State.{stateForbids}
 use Rattle.station.specs.declared.Station.{Station}
 use Rattle.station.specs.Station.{emptyAnswer}
 use Rattle.station.specs.Table.{sound}
-use Rattle.station.specs.Refusals.{wrongCall, otherIdentifier, overLimit}
 use Rattle.station.specs.Step.{Outcome, answerOf, step, stepOnSound}
+use Rattle.decide.specs.declared.Decision.{Decision}
+use Rattle.decide.specs.Decided.{changed}
 use Rattle.desk.specs.declared.Desk.{Desk}
 use Rattle.desk.specs.Mask.{over}
 use Rattle.desk.specs.Desk.{Kept, frees, firstFreeIn}
@@ -53,20 +52,6 @@ stepSoundBoard b e = putBack b (stepOnSound (b .station) (lent b) e)
 abbrev pub soundBoard : Board → Bool
 soundBoard b = not (ltb 64 (b .len)) && sound (b .station) (lent b)
 
--- numbers 4 to 7 where the event names a call, or 0
-abbrev pub namedRefusal : Station → Call → Event → ℕ
-namedRefusal s c e =
-    when wrongCall c e then 4 else
-    when stateForbids c e then 5 else
-    when otherIdentifier c e then 6 else
-    when overLimit s c e then 7 else
-    0
-
--- no two identifiers of a column are equal, where 0 is none
-unfoldable pub apartIn : List ℕ → Bool
-apartIn [] = true
-apartIn (x ∷ rest) = (eqb x 0 || not (any (eqb x) rest)) && apartIn rest
-
 -- the board after the record at a place is replaced by its effect, and the answer
 abbrev pub settledBoard : Board → Event → ℕ → ℕ → Effect → Stepped
 settledBoard b e i next x = record {
@@ -88,8 +73,9 @@ refusedBoard b code = record { answer = emptyAnswer code; board = b }
 abbrev pub identifierIn : Event → List ℕ → ℕ → ℕ
 identifierIn e held next = when diverts e then firstFreeIn candidates held next else next
 
-abbrev pub nextWith : Event → ℕ → ℕ → ℕ
-nextWith e identifier next = when diverts e then after identifier else next
+-- the board after a decision, and the answer
+abbrev pub appliedTo : Board → Decision → Stepped
+appliedTo b d = record { answer = d .told .answer; board = record { station = d .told .station; len = b .len; calls = changed d (b .calls) } }
 
 -- the event passed tests 2 and 3, and what is kept beside the table is true of it
 pub record Passed (b : Board) (d : Desk) (e : Event) : Type 0 where

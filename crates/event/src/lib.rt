@@ -206,19 +206,22 @@ fn message_fields(e: Event) -> bool
         & (!(e.message == 4) | (e.flag == 0))
 }
 
-// The kind is one of the table, and each field is as its row says.
+// The kind is one of the table, and each field is as its row says. By kind, so that an event's own row alone is looked at.
 pub fn well_made(e: Event) -> bool
     ensures { λ r. ⌜ r ≡ wellMade e ⌝ }
 {
-    let k = e.kind;
-    (((k == 1) | (k == 2)) & open_fields(e))
-        | ((k == 3) & open_diverted_fields(e))
-        | (((k == 4) | (k == 9) | (k == 11) | (k == 15)) & call_only(e))
-        | ((k == 5) & answer_fields(e))
-        | ((k == 6) & divert_fields(e))
-        | (((k == 7) | (k == 8)) & outcome_fields(e))
-        | ((k == 10) & clock_fields(e))
-        | ((k == 12) & rerouting_fields(e))
-        | ((k == 13) & dli1_fields(e))
-        | ((k == 14) & message_fields(e))
+    let kind = e.kind;
+    match kind {
+        1 | 2 => open_fields(e),
+        3 => open_diverted_fields(e),
+        4 | 9 | 11 | 15 => call_only(e),
+        5 => answer_fields(e),
+        6 => divert_fields(e),
+        7 | 8 => outcome_fields(e),
+        10 => clock_fields(e),
+        12 => rerouting_fields(e),
+        13 => dli1_fields(e),
+        14 => message_fields(e),
+        _ => false,
+    }
 }

@@ -77,3 +77,12 @@ by-cases false t f = f refl
 pub when-has : {A : Type 0} (P : A → Type 0) (b : Bool) {x y : A} → (T b → P x) → (T (not b) → P y) → P (when b then x else y)
 when-has P true p q = p tt
 when-has P false p q = q tt
+
+-- the outcome t of a test b was denied, or not
+pub denied : (t b : Bool) → t ≡ b → not t ≡ true → b ≡ false
+denied true b e d = absurd (false≢true d)
+denied false b e d = sym e
+
+pub upheld : (t b : Bool) → t ≡ b → not t ≡ false → b ≡ true
+upheld true b e d = sym e
+upheld false b e d = absurd (false≢true (sym d))

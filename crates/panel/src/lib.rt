@@ -82,7 +82,7 @@ pub fn play(b: Board, position: u64, bytes: &[u8], out: &mut [u8]) -> Played
                     let id = desk::held_by(d);
                     held[i] = id;
                     last = time;
-                    let answer = engine::answered(i as u8, x);
+                    let answer = decide::answered(i as u8, x);
                     at = printout::write_line(out, at, position + k as u64, answer);
                     k += 1;
                     continue;
@@ -97,7 +97,7 @@ pub fn play(b: Board, position: u64, bytes: &[u8], out: &mut [u8]) -> Played
                 let i = desk::due_at(&dues, soon, time);
                 if i < len {
                     let c = calls[i];
-                    let x = rules::incoming::expired(c);
+                    let x = incoming::expired(c);
                     let d = x.call;
                     calls[i] = d;
                     free = desk::flip(free, i, c.direction, d.direction);
@@ -107,7 +107,7 @@ pub fn play(b: Board, position: u64, bytes: &[u8], out: &mut [u8]) -> Played
                     let id = desk::held_by(d);
                     held[i] = id;
                     last = time;
-                    let answer = engine::answered(i as u8, x);
+                    let answer = decide::answered(i as u8, x);
                     at = printout::write_line(out, at, position + k as u64, answer);
                     k += 1;
                     continue;
@@ -126,7 +126,7 @@ pub fn play(b: Board, position: u64, bytes: &[u8], out: &mut [u8]) -> Played
                     next: next,
                     limit: limit,
                 };
-                let code = engine::named_refusal(s, c, e);
+                let code = decide::named_refusal(s, c, e);
                 if code == 0 {
                     let identifier = engine::identifier_in(e, &held, next);
                     let x = rules::act(c, e, identifier);
@@ -138,9 +138,9 @@ pub fn play(b: Board, position: u64, bytes: &[u8], out: &mut [u8]) -> Played
                     soon = desk::sooner(soon, due);
                     let id = desk::held_by(d);
                     held[i] = id;
-                    next = engine::next_with(e, identifier, next);
+                    next = decide::next_with(e, identifier, next);
                     last = time;
-                    let answer = engine::answered(e.call, x);
+                    let answer = decide::answered(e.call, x);
                     at = printout::write_line(out, at, position + k as u64, answer);
                     k += 1;
                     continue;

@@ -7,11 +7,6 @@ use call::Call;
 use call::Effect;
 use event::Event;
 
-pub mod incoming;
-pub mod legs;
-pub mod message;
-pub mod outgoing;
-
 // "1" to "3"
 pub fn opened(e: Event) -> Effect
     ensures { λ r. ⌜ r ≡ opened e ⌝ }

@@ -73,7 +73,7 @@ fn run_tested(b: Board, events: &[u8]) -> Ran
                 let i = desk::due_at(&dues, soon, time);
                 if i < len {
                     let c = calls[i];
-                    let x = rules::incoming::expired(c);
+                    let x = incoming::expired(c);
                     let d = x.call;
                     calls[i] = d;
                     free = desk::flip(free, i, c.direction, d.direction);
@@ -100,7 +100,7 @@ fn run_tested(b: Board, events: &[u8]) -> Ran
                     next: next,
                     limit: limit,
                 };
-                let code = engine::named_refusal(s, c, e);
+                let code = decide::named_refusal(s, c, e);
                 if code == 0 {
                     let identifier = engine::identifier_in(e, &held, next);
                     let x = rules::act(c, e, identifier);
@@ -112,7 +112,7 @@ fn run_tested(b: Board, events: &[u8]) -> Ran
                     soon = desk::sooner(soon, due);
                     let id = desk::held_by(d);
                     held[i] = id;
-                    next = engine::next_with(e, identifier, next);
+                    next = decide::next_with(e, identifier, next);
                     last = time;
                     done += 1;
                     k += 1;

@@ -1,26 +1,22 @@
 use Prim.Native.Nat.{_≤_, _-_}
-use mathlib.Core.Path.{_≡_, refl, sym, ap, _∙_}
-use mathlib.Core.Bool.{true}
+use mathlib.Core.Path.{_≡_, refl}
 use native.Mathlib.Omega.{arith}
 use borrow.Author.Needs.{needs}
-use borrow.Author.Tests.{eq-eqb, ne-eqb, lt-ltb, le-ltb, le-leb}
 use lib.ListN.{take, length}
 use lib.Seq.{take-all}
-use Rattle.ground.specs.Lists.{first, all}
-use Rattle.ground.proofs.Walks.{first-on, first-at, all-on}
-use Rattle.desk.specs.Desk.{under, atLeast}
-use Rattle.desk.proofs.Kept.{all-lower}
+use Rattle.desk.specs.Desk.{soonestOf}
+use Rattle.desk.proofs.Bound.{soonest-on}
 use Rattle.desk.proofs.soonest.Statement.{statement}
 use Rattle.desk.proofs.soonest.Tie as tie
 
 abbrev Inv-loop : tie.InvT-loop
-Inv-loop dues m₀ i₀ m i = (i ≤ 64) × (all (atLeast m) (take i dues) ≡ true)
+Inv-loop dues m₀ i₀ m i = (i ≤ 64) × (m ≡ soonestOf (take i dues))
 
 abbrev μ-loop : tie.MeasureT-loop
 μ-loop dues m₀ i₀ m i = 64 - i
 
 loop-holds : tie.Need-loop-holds Inv-loop μ-loop
-unfolding all
+unfolding soonestOf
 loop-holds c = (omega arith, refl)
 
 loop-again : tie.Need-loop-again Inv-loop μ-loop
@@ -28,8 +24,7 @@ loop-again c =
     let at = c .before .before .before in
     let l = at .before .args .dues .now in
     let long : length l ≡ 64 = omega arith in
-    let m = c .sooner .result in
-    (omega arith, all-on (atLeast m) l (at .loop .i) 0 (omega arith) (all-lower m (at .loop .m) (take (at .loop .i) l) (c .sooner .ensures .0) (at .loop .inv .1)) (le-leb _ _ (c .sooner .ensures .1)))
+    (omega arith, omega (arith, c .sooner .ensures, at .loop .inv .1, soonest-on l (at .loop .i) 0 (omega arith)))
 
 returns : tie.Need-returns Inv-loop μ-loop
 returns c =

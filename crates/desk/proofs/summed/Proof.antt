@@ -5,18 +5,23 @@ use borrow.Author.Needs.{needs}
 use lib.ListN.{length, getD, length-set, getD-replicate}
 use Rattle.call.specs.Record.{freeCall}
 use Rattle.desk.specs.Mask.{over}
-use Rattle.desk.specs.Desk.{Kept, frees}
+use Rattle.desk.specs.Desk.{Kept, frees, soonestOf}
 use Rattle.desk.proofs.Mask.{over-next, over-at, over-length}
 use Rattle.desk.proofs.Kept.{desk, kept-next, kept-may, kept-none}
+use Rattle.desk.proofs.Bound.{soonest-stored, summed-kept}
 use Rattle.desk.proofs.summed.Statement.{statement}
 use Rattle.desk.proofs.summed.Tie as tie
 
 abbrev Inv-loop : tie.InvT-loop
 Inv-loop len calls free₀ soon₀ dues₀ held₀ i₀ free soon dues held i =
-    (i ≤ len) × (length dues ≡ 64) × (length held ≡ 64) × Kept (over i calls frees) (desk free soon dues held)
+    (i ≤ len) × (length dues ≡ 64) × (length held ≡ 64) × Kept (over i calls frees) (desk free soon dues held) × (soon ≡ soonestOf dues)
 
 abbrev μ-loop : tie.MeasureT-loop
 μ-loop len calls free₀ soon₀ dues₀ held₀ i₀ free soon dues held i = len - i
+
+loop-holds : tie.Need-loop-holds Inv-loop μ-loop
+unfolding soonestOf
+loop-holds c = (omega arith, refl, refl, kept-none, refl)
 
 flip-requires : tie.Need-flip-requires Inv-loop μ-loop
 flip-requires c κs =
@@ -44,18 +49,20 @@ loop-again c =
       rw (← over-next l frees i freeCall (omega arith) (omega arith), c .before .before .quiet-until .ensures, c .held-by .ensures)
           (kept-next (over i l frees) (v .free) (v .soon) (v .dues) (v .held) i (getD l i freeCall) freeCall (v .inv .3)
           (c .before .before .before .flip .result) (c .before .sooner .result) (omega (arith, full)) (rw f (c .before .before .before .flip .ensures))
-          (c .before .sooner .ensures .0) (rw (c .before .before .quiet-until .ensures) at (c .before .sooner .ensures .1))),
+          (omega (arith, c .before .sooner .ensures)) (omega (arith, c .before .sooner .ensures, c .before .before .quiet-until .ensures))),
+      rw (c .before .sooner .ensures, c .before .before .quiet-until .ensures, v .inv .4, v .inv .3 .column) (sym (soonest-stored (over i l frees) i (getD l i freeCall) (omega (arith, full)) f)),
     )
 
 returns : tie.Need-returns Inv-loop μ-loop
 returns c =
     let e : c .before .loop .i ≡ c .before .before .args .len = omega arith in
-    rw e at (c .before .loop .inv .3)
+    let v = c .before .loop in
+    rw e at (summed-kept (over (v .i) (c .before .before .args .t1) frees) (v .free) (v .soon) (v .dues) (v .held) (v .inv .3) (v .inv .4))
 
 pub summed-spec : {M : Type 1} → statement M
 summed-spec =
     tie.close
     (tie.spec
-    Inv-loop μ-loop (λ c. (omega arith, refl, refl, kept-none)) (λ c. omega arith) (λ c. omega arith) flip-requires (λ c κs. tt)
+    Inv-loop μ-loop loop-holds (λ c. omega arith) (λ c. omega arith) flip-requires (λ c κs. tt)
     (λ c. omega arith) (λ c. omega arith) (λ c κs. tt) (λ c κs. tt) (λ c. omega arith) (λ c. omega arith) (λ c. omega arith) (λ c. omega arith)
     loop-again returns)

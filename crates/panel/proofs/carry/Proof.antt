@@ -18,7 +18,7 @@ loop-again : tie.Need-loop-again Inv-loop μ-loop
 loop-again c =
     let at = c .before .before in
     let args = at .before .args in
-    (omega arith, length-set (at .loop .buffer) (at .loop .i) _ ∙ at .loop .inv .1, rw (at .loop .inv .2) (carried (args .buffer .now) (args .from) (at .loop .i) (omega arith)))
+    (omega arith, length-set (at .loop .buffer) _ _ ∙ at .loop .inv .1, rw (at .loop .inv .2) (carried (args .buffer .now) (args .from) (at .loop .i) (omega arith)))
 
 returns : tie.Need-returns Inv-loop μ-loop
 returns c =

@@ -4,7 +4,7 @@ use native.Mathlib.Omega.{arith}
 use borrow.Author.Needs.{needs}
 use borrow.Author.Tests.{ne-eqb}
 use Rattle.call.specs.Act.{act}
-use Rattle.sound.proofs.Groups.{opener, no-opener, no-kind-opens, incoming, far-end, no-incoming, past-incoming, outgoing, no-outgoing, past-outgoing}
+use Rattle.event.proofs.Groups.{opener, no-opener, no-kind-opens, incoming, far-end, no-incoming, past-incoming, outgoing, no-outgoing, past-outgoing}
 use Rattle.rules.proofs.act.Statement.{statement}
 use Rattle.rules.proofs.act.Tie as tie
 

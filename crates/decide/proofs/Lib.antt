@@ -1,0 +1,5 @@
+pub mod Sorts
+pub mod Numbered
+pub mod Decisions
+pub mod Stepped
+pub mod Tested

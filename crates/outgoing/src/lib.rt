@@ -1,0 +1,192 @@
+// "Rules for outgoing calls": a call that is opened, an invoke that is received and a DLI1 that is received.
+ghost use mathlib.Core.Path.{_≡_};
+ghost use Rattle.call.specs.Messages.{echoOn, releaseOn, resultOn, two, three};
+ghost use Rattle.call.specs.Outgoing.{openedOutgoing, dli1Of, toCdo, setupOn, turnsDown, turnedDown, redirected, forwarded, rerouted, informed};
+use call::Call;
+use call::Effect;
+use call::Message;
+use call::Sent;
+use event::Event;
+use notice::Dli1;
+use notice::Noticed;
+
+// "1 open outgoing"
+pub fn opened_outgoing(e: Event) -> Call
+    ensures { λ r. ⌜ r ≡ openedOutgoing e ⌝ }
+{
+    let mut c = call::free_call();
+    c.direction = 1;
+    c.basic = 1;
+    c.party = e.first;
+    c
+}
+
+fn dli1_of(e: Event) -> Dli1
+    ensures { λ r. ⌜ r ≡ dli1Of e ⌝ }
+{
+    Dli1 {
+        reason: e.reason,
+        option: e.option,
+        number: e.second,
+    }
+}
+
+// "DLI1: CDO Divert."
+pub fn to_cdo(n: Noticed, c: Call) -> Call
+    ensures { λ r. ⌜ r ≡ toCdo n c ⌝ }
+{
+    let history = n.history;
+    let mut d = c;
+    d.cdo = 1;
+    d.history = history;
+    d
+}
+
+// "R result", "E error"
+fn echo_on(letter: u8, leg: u8, identifier: u16) -> Message
+    ensures { λ r. ⌜ r ≡ echoOn letter leg identifier ⌝ }
+{
+    let mut m = message::bare(letter, leg);
+    m.identifier = identifier;
+    m
+}
+
+// "SETUP with DLI2 to the destination"
+fn setup_on(leg: u8, c: Call, e: Event) -> Message
+    ensures { λ r. ⌜ r ≡ setupOn leg c e ⌝ }
+{
+    let mut m = message::bare(b'S', leg);
+    m.reason = e.reason;
+    m.counter = e.counter;
+    m.destination = e.second;
+    m.diverting = c.party;
+    m.original = e.third;
+    m
+}
+
+// "CDR Invoked, Active, or cfnr outside Delivered"
+fn turns_down(c: Call, e: Event) -> bool
+    ensures { λ r. ⌜ r ≡ turnsDown c e ⌝ }
+{
+    (c.cdr == 1) | (c.basic == 3) | ((e.reason == 3) & !(c.basic == 2))
+}
+
+// "return error on that leg, the record stays (ours)"
+fn turned_down(c: Call, e: Event) -> Effect
+    ensures { λ r. ⌜ r ≡ turnedDown c e ⌝ }
+{
+    let identifier = e.identifier as u32;
+    let error = echo_on(b'E', e.leg, e.identifier);
+    let sent = message::one(error);
+    Effect {
+        call: c,
+        sent: sent,
+        notice: message::NO_NOTICE,
+        number: 0,
+        identifier: identifier,
+        counter: 0,
+    }
+}
+
+fn three(a: Message, b: Message, c: Message) -> Sent
+    ensures { λ r. ⌜ r ≡ three a b c ⌝ }
+{
+    Sent {
+        first: a,
+        second: b,
+        third: c,
+    }
+}
+
+// "Else cfu or cfb: return result and RELEASE COMPLETE on leg 1, SETUP with DLI2 to the destination, now leg 1"
+fn redirected_sent(c: Call, e: Event) -> Sent
+    ensures { λ r. ⌜ r ≡ three (resultOn 1 (e .identifier)) (releaseOn 1) (setupOn 1 c e) ⌝ }
+{
+    let result = echo_on(b'R', 1, e.identifier);
+    let release = message::bare(b'X', 1);
+    let setup = setup_on(1, c, e);
+    three(result, release, setup)
+}
+
+// "Else cfu or cfb: .. Proceeding; DLI1 (reason, option, destination) to the own CDO."
+fn redirected(c: Call, e: Event) -> Effect
+    ensures { λ r. ⌜ r ≡ redirected c e ⌝ }
+{
+    let identifier = e.identifier as u32;
+    let sent = redirected_sent(c, e);
+    let told = dli1_of(e);
+    let history = c.history;
+    let noticed = history.take_dli1(told);
+    let mut d = to_cdo(noticed, c);
+    d.basic = 1;
+    d.party = e.second;
+    Effect {
+        call: d,
+        sent: sent,
+        notice: noticed.notice,
+        number: 0,
+        identifier: identifier,
+        counter: e.counter,
+    }
+}
+
+// "Else cfnr: return result on leg 1, SETUP with DLI2 on leg 2"
+fn forwarded_sent(c: Call, e: Event) -> Sent
+    ensures { λ r. ⌜ r ≡ two (resultOn 1 (e .identifier)) (setupOn 2 c e) ⌝ }
+{
+    let result = echo_on(b'R', 1, e.identifier);
+    let setup = setup_on(2, c, e);
+    message::two(result, setup)
+}
+
+// "Else cfnr: .. Invoked."
+fn forwarded(c: Call, e: Event) -> Effect
+    ensures { λ r. ⌜ r ≡ forwarded c e ⌝ }
+{
+    let identifier = e.identifier as u32;
+    let sent = forwarded_sent(c, e);
+    let waiting = dli1_of(e);
+    let mut d = c;
+    d.cdr = 1;
+    d.waiting = waiting;
+    Effect {
+        call: d,
+        sent: sent,
+        notice: message::NO_NOTICE,
+        number: 0,
+        identifier: identifier,
+        counter: e.counter,
+    }
+}
+
+// "12: .."
+pub fn rerouted(c: Call, e: Event) -> Effect
+    ensures { λ r. ⌜ r ≡ rerouted c e ⌝ }
+{
+    if turns_down(c, e) {
+        turned_down(c, e)
+    } else if e.reason == 3 {
+        forwarded(c, e)
+    } else {
+        redirected(c, e)
+    }
+}
+
+// "13: .."
+pub fn informed(c: Call, e: Event) -> Effect
+    ensures { λ r. ⌜ r ≡ informed c e ⌝ }
+{
+    let told = dli1_of(e);
+    let history = c.history;
+    let noticed = history.take_dli1(told);
+    let d = to_cdo(noticed, c);
+    let nothing = call::no_messages();
+    Effect {
+        call: d,
+        sent: nothing,
+        notice: noticed.notice,
+        number: 0,
+        identifier: message::NO_IDENTIFIER,
+        counter: 0,
+    }
+}

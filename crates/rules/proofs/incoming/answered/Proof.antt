@@ -1,6 +1,0 @@
-use Rattle.ground.proofs.Ways.{ways}
-use Rattle.rules.proofs.incoming.answered.Statement.{statement}
-use Rattle.rules.proofs.incoming.answered.Tie as tie
-
-pub answered-spec : {M : Type 1} → statement M
-answered-spec = tie.close (tie.spec (λ c κs. tt) (λ c κs. tt) (λ c. search ways) (λ c. search ways))

@@ -1,6 +1,0 @@
-use Rattle.ground.proofs.Ways.{ways}
-use Rattle.rules.proofs.incoming.cdf_at_open.Statement.{statement}
-use Rattle.rules.proofs.incoming.cdf_at_open.Tie as tie
-
-pub cdf-at-open-spec : {M : Type 1} → statement M
-cdf-at-open-spec = tie.close (tie.spec (λ c. search ways) (λ c. search ways))

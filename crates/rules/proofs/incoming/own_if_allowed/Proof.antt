@@ -1,6 +1,0 @@
-use Rattle.ground.proofs.Ways.{ways}
-use Rattle.rules.proofs.incoming.own_if_allowed.Statement.{statement}
-use Rattle.rules.proofs.incoming.own_if_allowed.Tie as tie
-
-pub own-if-allowed-spec : {M : Type 1} → statement M
-own-if-allowed-spec = tie.close (tie.spec (λ c. search ways) (λ c. search ways))

@@ -1,6 +1,0 @@
-use Rattle.ground.proofs.Ways.{ways}
-use Rattle.rules.proofs.legs.after_message.Statement.{statement}
-use Rattle.rules.proofs.legs.after_message.Tie as tie
-
-pub after-message-spec : {M : Type 1} → statement M
-after-message-spec = tie.close (tie.spec (λ c. search ways) (λ c. search ways) (λ c. search ways))

@@ -1,5 +1,0 @@
-use Rattle.rules.proofs.legs.hand_over.Statement.{statement}
-use Rattle.rules.proofs.legs.hand_over.Tie as tie
-
-pub hand-over-spec : {M : Type 1} → statement M
-hand-over-spec = tie.close (tie.spec (λ c κs. tt) (λ c. c .take-dli1 .ensures))

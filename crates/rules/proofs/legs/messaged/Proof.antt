@@ -1,6 +1,0 @@
-use Rattle.ground.proofs.Ways.{ways}
-use Rattle.rules.proofs.legs.messaged.Statement.{statement}
-use Rattle.rules.proofs.legs.messaged.Tie as tie
-
-pub messaged-spec : {M : Type 1} → statement M
-messaged-spec = tie.close (tie.spec (λ c κs. tt) (λ c κs. tt) (λ c κs. tt) (λ c. search ways) (λ c. search ways) (λ c. search ways))

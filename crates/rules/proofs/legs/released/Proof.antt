@@ -1,6 +1,0 @@
-use Rattle.ground.proofs.Ways.{ways}
-use Rattle.rules.proofs.legs.released.Statement.{statement}
-use Rattle.rules.proofs.legs.released.Tie as tie
-
-pub released-spec : {M : Type 1} → statement M
-released-spec = tie.close (tie.spec (λ c κs. tt) (λ c κs. tt) (λ c κs. tt) (λ c. search ways) (λ c. search ways) (λ c. search ways))

@@ -1,5 +1,0 @@
-use Rattle.rules.proofs.message.connect_with_dli3.Statement.{statement}
-use Rattle.rules.proofs.message.connect_with_dli3.Tie as tie
-
-pub connect-with-dli3-spec : {M : Type 1} → statement M
-connect-with-dli3-spec = tie.close (tie.spec (λ c κs. tt) (λ c. rw (c .bare .ensures)))

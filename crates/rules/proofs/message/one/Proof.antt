@@ -1,5 +1,0 @@
-use Rattle.rules.proofs.message.one.Statement.{statement}
-use Rattle.rules.proofs.message.one.Tie as tie
-
-pub one-spec : {M : Type 1} → statement M
-one-spec = tie.close (tie.spec (λ c κs. tt) (λ c. rw (c .no-message .ensures)))

@@ -1,5 +1,0 @@
-use Rattle.rules.proofs.message.silent.Statement.{statement}
-use Rattle.rules.proofs.message.silent.Tie as tie
-
-pub silent-spec : {M : Type 1} → statement M
-silent-spec = tie.close (tie.spec (λ c κs. tt) (λ c κs. tt) (λ c. cc))

@@ -1,5 +1,0 @@
-use Rattle.rules.proofs.message.two.Statement.{statement}
-use Rattle.rules.proofs.message.two.Tie as tie
-
-pub two-spec : {M : Type 1} → statement M
-two-spec = tie.close (tie.spec (λ c κs. tt) (λ c. rw (c .no-message .ensures)))

@@ -1,6 +1,0 @@
-use borrow.Author.Needs.{needs}
-use Rattle.rules.proofs.outgoing.forwarded.Statement.{statement}
-use Rattle.rules.proofs.outgoing.forwarded.Tie as tie
-
-pub forwarded-spec : {M : Type 1} → statement M
-forwarded-spec = tie.close (tie.spec (λ c. search needs) (λ c κs. tt) (λ c κs. tt) (λ c. rw (c .dli1-of .ensures, c .before .forwarded-sent .ensures)))

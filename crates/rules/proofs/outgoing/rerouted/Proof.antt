@@ -1,6 +1,0 @@
-use Rattle.ground.proofs.Ways.{ways, asked}
-use Rattle.rules.proofs.outgoing.rerouted.Statement.{statement}
-use Rattle.rules.proofs.outgoing.rerouted.Tie as tie
-
-pub rerouted-spec : {M : Type 1} → statement M
-rerouted-spec = tie.close (tie.spec (λ c κs. tt) (λ c κs. tt) (λ c κs. tt) (λ c κs. tt) (λ c. search (ways, asked)) (λ c. search (ways, asked)) (λ c. search (ways, asked)))

@@ -1,5 +1,0 @@
-use Rattle.sound.proofs.record.sound_free.Statement.{statement}
-use Rattle.sound.proofs.record.sound_free.Tie as tie
-
-pub sound-free-spec : {M : Type 1} → statement M
-sound-free-spec = tie.close (tie.spec (λ c κs. tt) (λ c κs. tt) (λ c. cc))

@@ -1,7 +1,0 @@
-use Rattle.call.specs.Soundness.{soundOutgoing}
-use Rattle.sound.proofs.record.sound_outgoing.Statement.{statement}
-use Rattle.sound.proofs.record.sound_outgoing.Tie as tie
-
-pub sound-outgoing-spec : {M : Type 1} → statement M
-unfolding soundOutgoing
-sound-outgoing-spec = tie.close (tie.spec (λ c κs. tt) (λ c κs. tt) (λ c κs. tt) (λ c κs. tt) (λ c κs. tt) (λ c. cc))

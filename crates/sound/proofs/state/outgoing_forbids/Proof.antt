@@ -1,5 +1,0 @@
-use Rattle.sound.proofs.state.outgoing_forbids.Statement.{statement}
-use Rattle.sound.proofs.state.outgoing_forbids.Tie as tie
-
-pub outgoing-forbids-spec : {M : Type 1} → statement M
-outgoing-forbids-spec = tie.close (tie.spec (λ c κs. tt) (λ c κs. tt) (λ c. cc))
