@@ -5,7 +5,11 @@ ghost use Rattle.event.specs.WellMade.{wellMade};
 ghost use Rattle.station.specs.Station.{freshOf, shortForm};
 ghost use Rattle.engine.specs.Board.{stepBoard};
 ghost use Rattle.runs.specs.Run.{runBoard};
+ghost use Rattle.whipsail.specs.Lent.{toldOf, tableAfter};
 ghost use Rattle.whipsail.specs.Read.{notRead, readAt};
+use call::Call;
+use decide::Input;
+use decide::Told;
 use engine::Board;
 use engine::Stepped;
 use event::Event;
@@ -93,6 +97,18 @@ pub extern "C" fn whipsail_step(b: Board, e: Event) -> Stepped
     ensures { λ r. ⌜ r ≡ stepBoard b e ⌝ }
 {
     engine::step(b, e)
+}
+
+// One event on the records that the host lends, of any number: at most one of them is written.
+#[no_mangle]
+pub extern "C" fn whipsail_lent_step(table: &mut [Call], input: Input) -> Told
+    ensures { λ r. ⌜ (r ≡ toldOf (now (table .entry)) input) × (now (table .exit) ≡ tableAfter (now (table .entry)) input) ⌝ }
+{
+    let n = lent::fit(table.len());
+    let calls = lent::load(table, n);
+    let out = decide::decided(calls, n, input);
+    lent::settle(table, out.place, out.count, out.call);
+    out.told
 }
 
 // All whole records of 24 bytes, one after the other.

@@ -1,0 +1,17 @@
+-- One event on the table that the host lends, of any length.
+use mathlib.Core.List.{List}
+use Rattle.call.specs.declared.Call.{Call}
+use Rattle.station.specs.Step.{Outcome, step}
+use Rattle.decide.specs.declared.Input.{Input}
+use Rattle.decide.specs.declared.Told.{Told}
+
+abbrev pub outcome : List Call → Input → Outcome
+outcome table input = step (input .station) table (input .event)
+
+-- the answer and the station after it
+abbrev pub toldOf : List Call → Input → Told
+toldOf table input = record { answer = outcome table input .answer; station = outcome table input .station }
+
+-- the records after it
+abbrev pub tableAfter : List Call → Input → List Call
+tableAfter table input = outcome table input .calls
