@@ -28,10 +28,9 @@ use Rattle.desk.specs.declared.Desk.{Desk}
 use Rattle.desk.specs.Desk.{under, never}
 use Rattle.engine.specs.declared.Board.{Board}
 use Rattle.engine.specs.Board.{lent, putBack, soundBoard, stepBoard, stepSoundBoard, settledBoard, idleBoard, refusedBoard, identifierIn, appliedTo, Passed}
-use Rattle.decide.specs.declared.Input.{Input}
 use Rattle.decide.specs.declared.Decision.{Decision}
-use Rattle.decide.specs.Decided.{namedRefusal, nextWith, decidedOf, decidedOnSound, decidedIn}
-use Rattle.decide.proofs.Stepped.{decided-step, decided-step-on-sound, decided-within, decided-within-on-sound}
+use Rattle.decide.specs.Decided.{namedRefusal, nextWith, decidedOnSound}
+use Rattle.decide.proofs.Stepped.{decided-step-on-sound, decided-within-on-sound}
 use Rattle.engine.proofs.Boards.{back-refused, back-none, back-settled, back-applied}
 use Rattle.decide.proofs.Sorts.{act-other}
 use Rattle.engine.proofs.Through.{through-early, through-ill, through-full, through-opened, through-none, through-ended, through-outside, through-refused, through-done}
@@ -130,9 +129,6 @@ unsound-step b e h =
 
 -- a decision about the lent table, put into the array, is the step
 module _ (b : Board) (e : Event) (long : length (b .calls) ≡ 64) where
-  abbrev input : Input
-  input = record { station = b .station; event = e }
-
   module _ (h : b .len ≤ 64) where
     lent-within : (d : Decision) → d .place + d .count ≤ length (lent b) → d .place + d .count ≤ b .len
     lent-within d w = omega (arith, w, lent-long (b .len) (b .calls) h long)
@@ -144,15 +140,3 @@ module _ (b : Board) (e : Event) (long : length (b .calls) ≡ 64) where
     applied-step-on-sound =
         back-applied b (decidedOnSound (b .station) (lent b) e) (lent-within (decidedOnSound (b .station) (lent b) e) (decided-within-on-sound (b .station) (lent b) e))
         ∙ ap (putBack b) (decided-step-on-sound (b .station) (lent b) e)
-
-  pub fits-step : decidedIn (b .calls) (b .len) input .place + decidedIn (b .calls) (b .len) input .count ≤ 64
-  fits-step =
-      by-cases (ltb 64 (b .len)) (λ l. rw l (omega arith)) (λ l.
-      rw l (omega (arith, ltb-false 64 (b .len) l, lent-within (ltb-false 64 (b .len) l) (decidedOf (b .station) (lent b) e) (decided-within (b .station) (lent b) e))))
-
-  pub applied-step : appliedTo b (decidedIn (b .calls) (b .len) input) ≡ stepBoard b e
-  applied-step =
-      by-cases (ltb 64 (b .len)) (λ l. rw l) (λ l.
-      rw l (
-      back-applied b (decidedOf (b .station) (lent b) e) (lent-within (ltb-false 64 (b .len) l) (decidedOf (b .station) (lent b) e) (decided-within (b .station) (lent b) e))
-      ∙ ap (putBack b) (decided-step (b .station) (lent b) e)))

@@ -3,7 +3,7 @@ ghost use mathlib.Core.Path.{_≡_};
 ghost use mathlib.Core.Bool.{true};
 ghost use Prim.Native.Nat.{ℕ, _+_, _≤_};
 ghost use lib.ListN.{length};
-ghost use Rattle.engine.specs.Board.{soundBoard, identifierIn, appliedTo, stepBoard};
+ghost use Rattle.engine.specs.Board.{soundBoard, identifierIn, refusedBoard, appliedTo, stepBoard};
 use call::Call;
 use decide::Decision;
 use decide::Input;
@@ -75,6 +75,16 @@ fn applied(b: Board, d: Decision) -> Stepped
     }
 }
 
+fn not_sound(b: Board) -> Stepped
+    ensures { λ r. ⌜ r ≡ refusedBoard b 1 ⌝ }
+{
+    let answer = station::empty_answer(1);
+    Stepped {
+        answer: answer,
+        board: b,
+    }
+}
+
 // One event, on any board: the table, the clock and the event are tested.
 pub fn step(b: Board, e: Event) -> Stepped
     ensures { λ r. ⌜ r ≡ stepBoard b e ⌝ }
@@ -85,8 +95,14 @@ pub fn step(b: Board, e: Event) -> Stepped
         station: station,
         event: e,
     };
-    let d = decide::decided(calls, b.len, input);
-    applied(b, d)
+    if decide::in_bounds(b.len, station.limit) {
+        if table::sound_table(calls, b.len, station.last) {
+            let d = decide::decided_on_sound(calls, b.len, input);
+            return applied(b, d);
+        }
+        return not_sound(b);
+    }
+    not_sound(b)
 }
 
 // The same for a caller that can show a sound table: it is not tested again.
@@ -100,6 +116,6 @@ pub fn step_on_sound(b: Board, e: Event) -> Stepped
         station: station,
         event: e,
     };
-    let d = decide::decided_on_sound(calls, b.len, input);
-    applied(b, d)
+    let decision = decide::decided_on_sound(calls, b.len, input);
+    applied(b, decision)
 }
