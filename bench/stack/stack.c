@@ -1,7 +1,7 @@
-/* How deep one step goes, and one run: plays the event records of standard
- * input on a fresh board, one by one and then all in one run, paints the stack
- * before each call, and prints the most that one has overwritten, counted from
- * its caller's frame. */
+/* stack FILE..: how deep a step on a lent table goes, a step by value and a run.
+ * Plays the event records of each file on a fresh table in the three ways, paints
+ * the stack before each call, and prints the most that one has overwritten,
+ * counted from its caller's frame. */
 #include <stdio.h>
 
 #include "whipsail.h"
@@ -26,6 +26,11 @@ static size_t depth_below(uintptr_t frame) {
 }
 
 /* These have nothing in their frames but the arguments of the call and its result. */
+__attribute__((noinline)) static uintptr_t lent(whipsail_call *table, const whipsail_input *input, whipsail_told *told) {
+    *told = whipsail_lent_step(table, WHIPSAIL_RECORDS, *input);
+    return (uintptr_t)__builtin_frame_address(0);
+}
+
 __attribute__((noinline)) static uintptr_t step(const whipsail_board *board, const whipsail_event *event,
                                                 whipsail_stepped *stepped) {
     *stepped = whipsail_step(*board, *event);
@@ -38,32 +43,57 @@ __attribute__((noinline)) static uintptr_t run(const whipsail_board *board, cons
     return (uintptr_t)__builtin_frame_address(0);
 }
 
+static size_t deepest_lent, deepest_step, deepest_run, events;
+
+static void deepen(size_t *deepest, uintptr_t frame) {
+    size_t depth = depth_below(frame);
+    if (depth > *deepest)
+        *deepest = depth;
+}
+
+static void play(const uint8_t *bytes, size_t len) {
+    static whipsail_board start, board;
+    static whipsail_call table[WHIPSAIL_RECORDS];
+    static whipsail_stepped stepped;
+    static whipsail_ran ran;
+    whipsail_told told;
+    start = (whipsail_board){.station = whipsail_fresh_short(), .len = WHIPSAIL_RECORDS};
+    board = start;
+    for (size_t i = 0; i < WHIPSAIL_RECORDS; i++)
+        table[i] = start.calls[i];
+    whipsail_input input = {.station = start.station};
+    for (size_t at = 0; at + WHIPSAIL_EVENT_BYTES <= len; at += WHIPSAIL_EVENT_BYTES, events++) {
+        input.event = whipsail_event_at(bytes, len, at).event;
+        paint();
+        deepen(&deepest_lent, lent(table, &input, &told));
+        input.station = told.station;
+        paint();
+        deepen(&deepest_step, step(&board, &input.event, &stepped));
+        board = stepped.board;
+    }
+    paint();
+    deepen(&deepest_run, run(&start, bytes, len, &ran));
+}
+
 static void tell(const char *what, size_t deepest, size_t arguments, size_t result) {
-    printf("  %s: %zu bytes: arguments %zu, result %zu, its own %zu\n", what, deepest, arguments, result,
+    printf("  %-14s%6zu = arguments %zu + result %zu + its own %zu\n", what, deepest, arguments, result,
            deepest - arguments - result);
 }
 
-int main(void) {
-    static whipsail_board start, board;
-    static whipsail_stepped stepped;
-    static whipsail_ran ran;
+int main(int count, char **files) {
     static uint8_t bytes[MOST];
-    size_t len = fread(bytes, 1, sizeof bytes, stdin);
-    size_t deepest = 0;
-    start.station = whipsail_fresh_short();
-    start.len = WHIPSAIL_RECORDS;
-    board = start;
-    for (size_t at = 0; at + WHIPSAIL_EVENT_BYTES <= len; at += WHIPSAIL_EVENT_BYTES) {
-        whipsail_event event = whipsail_event_at(bytes, len, at).event;
-        paint();
-        size_t depth = depth_below(step(&board, &event, &stepped));
-        if (depth > deepest)
-            deepest = depth;
-        board = stepped.board;
+    for (int i = 1; i < count; i++) {
+        FILE *file = fopen(files[i], "rb");
+        if (file == NULL) {
+            fprintf(stderr, "stack: no file %s\n", files[i]);
+            return 1;
+        }
+        play(bytes, fread(bytes, 1, sizeof bytes, file));
+        fclose(file);
     }
-    printf("%zu events\n", len / WHIPSAIL_EVENT_BYTES);
-    tell("deepest step", deepest, sizeof board + sizeof(whipsail_event), sizeof stepped);
-    paint();
-    tell("run", depth_below(run(&start, bytes, len, &ran)), sizeof start, sizeof ran);
+    printf("deepest stack in bytes over %zu events\n", events);
+    tell("lent entry", deepest_lent, sizeof(whipsail_input), sizeof(whipsail_told));
+    tell("step by value", deepest_step, sizeof(whipsail_board) + sizeof(whipsail_event), sizeof(whipsail_stepped));
+    tell("run", deepest_run, sizeof(whipsail_board), sizeof(whipsail_ran));
     return 0;
 }

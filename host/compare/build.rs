@@ -1,28 +1,29 @@
-//! Builds the C programs over the static library.
+//! Builds the C programs over both archives: for this machine and for x86-64.
 
 use std::path::Path;
 use std::process::Command;
 
+const PROGRAMS: [&str; 2] = ["../c/serve.c", "../c/layout.c"];
+const OTHERS: [&str; 3] = ["../c/build", "../kit", "../include"];
+const ARCHIVES: [&str; 2] = [
+    "../../target/native/libwhipsail.a",
+    "../../target/staticlib/libwhipsail.a",
+];
+
 fn main() {
-    let archive = std::env::var("WHIPSAIL_LIB")
-        .unwrap_or_else(|_| "../../target/staticlib/libwhipsail.a".to_string());
-    println!("cargo:rerun-if-env-changed=WHIPSAIL_LIB");
-    for input in [
-        "../c/serve.c",
-        "../c/build",
-        "../include/whipsail.h",
-        &archive,
-    ] {
+    for input in PROGRAMS.iter().chain(&OTHERS).chain(&ARCHIVES) {
         println!("cargo:rerun-if-changed={input}");
     }
-    assert!(
-        Path::new(&archive).exists(),
-        "{archive} is missing: `rt staticlib whipsail` makes it"
-    );
+    for archive in ARCHIVES {
+        assert!(Path::new(archive).exists(), "no {archive}: run host/lib");
+    }
     let out = std::env::var("OUT_DIR").expect("cargo names a folder");
-    let built = Command::new("../c/build")
-        .args([&out, "../c/serve.c", "../c/nine.c"])
-        .status()
-        .expect("host/c/build runs");
-    assert!(built.success(), "host/c/build failed");
+    for machine in ["native", "x86-64"] {
+        let built = Command::new("../c/build")
+            .args([machine, &format!("{out}/{machine}")])
+            .args(PROGRAMS)
+            .status()
+            .expect("host/c/build runs");
+        assert!(built.success(), "host/c/build failed");
+    }
 }

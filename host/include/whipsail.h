@@ -1,12 +1,22 @@
-/* The proved call diversion engine, in libwhipsail.a (`rt staticlib whipsail`).
+/* The proved call diversion engine, in libwhipsail.a (`host/lib` makes it).
  *
- * All is handed over and back by value: nothing is kept between two calls, no
- * memory is taken, and no pointer outlives its call. The host owns the board
- * and stores the one that comes back. Any values may be handed in; what the
- * engine does not take is refused by number, and the board then comes back as
- * it was. Calls on different boards may run at the same time.
+ * A host keeps a station and a table of call records, and lends both to each
+ * event:
  *
- * The archive needs memcpy and memset, and is for x86-64 (System V). */
+ *     whipsail_call table[64] = {0};
+ *     whipsail_station station = whipsail_fresh_short();
+ *     whipsail_event event = {.kind = WHIPSAIL_OPEN_OUTGOING, .first = 101, .time = 1};
+ *     whipsail_told told = whipsail_lent_step(table, 64, (whipsail_input){station, event});
+ *     station = told.station;
+ *
+ * and told.answer says what to send and what to show. Nothing is kept between
+ * two calls, no memory is taken, and no pointer outlives its call. Any values
+ * may be handed in; what the engine does not take is refused by number, and
+ * then nothing has changed. Calls on different tables may run at the same time.
+ * The archive needs memcpy and memset from its host.
+ *
+ * Words as "Wait" or "DLI1" are those of H.450.3; party numbers are 1 to 65535,
+ * and 0 is an absent one. */
 #ifndef WHIPSAIL_H
 #define WHIPSAIL_H
 
@@ -27,16 +37,56 @@ extern "C" {
 #define WHIPSAIL_NO_COUNTER 0
 #define WHIPSAIL_NO_MESSAGE 0
 
-/* Records that a board has room for. */
+/* Most records of a table. */
 #define WHIPSAIL_RECORDS 64
-/* Bytes of one event record. */
+/* Bytes of one event record in a file. */
 #define WHIPSAIL_EVENT_BYTES 24
+
+/* Kinds of events and the fields that each uses beside the time. */
+enum {
+    WHIPSAIL_OPEN_OUTGOING = 1, /* first: party */
+    WHIPSAIL_OPEN_INCOMING = 2, /* first: own number */
+    WHIPSAIL_OPEN_DIVERTED = 3, /* the same with DLI2: also reason, counter 1 to 15; second: diverting number,
+                                   third: original called */
+    WHIPSAIL_ALERTED = 4,       /* call; of an incoming call, as 5 to 9 */
+    WHIPSAIL_ANSWERED = 5,      /* call; flag 1: the own number may be shown */
+    WHIPSAIL_DIVERT = 6,        /* call, reason 1 to 3, option; second: destination */
+    WHIPSAIL_RESULT = 7,        /* call, identifier */
+    WHIPSAIL_ERROR = 8,         /* call, identifier; also a reject */
+    WHIPSAIL_LEG_FAILED = 9,    /* call */
+    WHIPSAIL_CLOCK = 10,        /* none; send one now and then, until its answer names no call */
+    WHIPSAIL_END = 11,          /* call: the own side ends it */
+    WHIPSAIL_REROUTE = 12,      /* of an outgoing call, as 13 and 14: call, leg, reason 1 to 3, option, counter 1 to 15,
+                                   identifier; second: destination, third: original called */
+    WHIPSAIL_DLI1 = 13,         /* call, reason, option; second: nominated number */
+    WHIPSAIL_RECEIVED = 14,     /* call, leg, message, flag; second: number of the DLI3 */
+    WHIPSAIL_FAR_END = 15       /* call: the far end ends an incoming one */
+};
+
+/* Why an event is refused. */
+enum {
+    WHIPSAIL_DONE = 0,
+    WHIPSAIL_NOT_SOUND = 1,        /* the table is empty, too long or not sound, or the limit not 1 to 15 */
+    WHIPSAIL_TIME_BEFORE = 2,      /* its time is before that of the last done event */
+    WHIPSAIL_NOT_WELL_MADE = 3,    /* its kind or a field; of whipsail_fresh: the limit */
+    WHIPSAIL_NO_SUCH_CALL = 4,     /* past the table's end, free, or of the other direction */
+    WHIPSAIL_NOT_IN_STATE = 5,     /* the call's state does not take it */
+    WHIPSAIL_OTHER_IDENTIFIER = 6, /* a result or error, not of the call's open request */
+    WHIPSAIL_OVER_LIMIT = 7,       /* one diversion more than the limit */
+    WHIPSAIL_TABLE_FULL = 8        /* an open, and no record is free */
+};
+
+/* Reasons, options, messages that are received, and their flags. */
+enum { WHIPSAIL_UNKNOWN = 0, WHIPSAIL_CFU = 1, WHIPSAIL_CFB = 2, WHIPSAIL_CFNR = 3 };
+enum { WHIPSAIL_NO_NOTIFICATION = 0, WHIPSAIL_WITHOUT_NUMBER = 1, WHIPSAIL_WITH_NUMBER = 2 };
+enum { WHIPSAIL_FACILITY = 1, WHIPSAIL_ALERTING = 2, WHIPSAIL_CONNECT = 3, WHIPSAIL_RELEASE = 4 };
+enum { WHIPSAIL_NO_DLI3 = 0, WHIPSAIL_DLI3_ALLOWED = 1, WHIPSAIL_DLI3_FORBIDDEN = 2 };
 
 /* One event; a field that its kind does not use is 0. */
 typedef struct whipsail_event {
-    uint8_t kind; /* 1 to 15 */
-    uint8_t call;
-    uint8_t leg;
+    uint8_t kind;
+    uint8_t call; /* place in the table, from 0 */
+    uint8_t leg;  /* 1 or 2 */
     uint8_t message;
     uint8_t reason;
     uint8_t option;
@@ -92,18 +142,11 @@ typedef struct whipsail_station {
     uint8_t limit; /* 1 to 15 */
 } whipsail_station;
 
-/* The station and its table. `len` is the lent length, 1 to 64: the records
- * from calls[len] on are no part of the table, never read for an answer and
- * never changed. A length of 0 or above 64 is refused with 1. */
-typedef struct whipsail_board {
-    whipsail_station station;
-    size_t len;
-    whipsail_call calls[WHIPSAIL_RECORDS];
-} whipsail_board;
-
-/* A message to send; an argument that it does not have is 0. */
+/* A message to send; an argument that it does not have is 0. Its letter, in
+ * ASCII: A ALERTING, C CONNECT, D CONNECT with DLI3, I callRerouting invoke, R its
+ * result, E its error, X RELEASE COMPLETE, S SETUP with DLI2, F leg failed. */
 typedef struct whipsail_message {
-    uint8_t letter; /* of the panel printout, in ASCII */
+    uint8_t letter;
     uint8_t leg;
     uint8_t reason;
     uint8_t option;
@@ -111,7 +154,7 @@ typedef struct whipsail_message {
     uint8_t flag; /* of D: presentation allowed */
     uint16_t identifier;
     uint16_t destination;
-    uint16_t diverting;
+    uint16_t diverting; /* of I: the last rerouting number */
     uint16_t original;
     uint16_t number; /* of D: the own number, if allowed */
 } whipsail_message;
@@ -119,7 +162,7 @@ typedef struct whipsail_message {
 /* The answer to one event. The messages are to be sent in their order; those
  * past the last one have the letter WHIPSAIL_NO_MESSAGE. */
 typedef struct whipsail_answer {
-    uint8_t code; /* 0 done, 1 to 8 refused */
+    uint8_t code; /* WHIPSAIL_DONE, or why not: then all else is none */
     uint8_t call;
     whipsail_message sent[3];
     uint8_t notice;  /* reason told to the caller */
@@ -128,10 +171,17 @@ typedef struct whipsail_answer {
     uint8_t counter;
 } whipsail_answer;
 
-typedef struct whipsail_stepped {
+/* What an event meets beside the table that is lent to it. */
+typedef struct whipsail_input {
+    whipsail_station station;
+    whipsail_event event;
+} whipsail_input;
+
+/* The answer, and the station after the event. */
+typedef struct whipsail_told {
     whipsail_answer answer;
-    whipsail_board board;
-} whipsail_stepped;
+    whipsail_station station;
+} whipsail_told;
 
 /* `code` is 0, or 3 for a limit outside 1 to 15: then no station is made. */
 typedef struct whipsail_made {
@@ -140,11 +190,25 @@ typedef struct whipsail_made {
 } whipsail_made;
 
 /* `whole` is 1, or 0 where fewer than 24 bytes are left: then the event is all
- * 0, which whipsail_step refuses with 3. */
+ * 0, which is refused with 3. */
 typedef struct whipsail_read {
     uint8_t whole;
     whipsail_event event;
 } whipsail_read;
+
+/* A station and its table by value. `len` is the table's length, 1 to 64: the
+ * records from calls[len] on are no part of it, never read for an answer and
+ * never changed. A length of 0 or above 64 is refused with 1. */
+typedef struct whipsail_board {
+    whipsail_station station;
+    size_t len;
+    whipsail_call calls[WHIPSAIL_RECORDS];
+} whipsail_board;
+
+typedef struct whipsail_stepped {
+    whipsail_answer answer;
+    whipsail_board board;
+} whipsail_stepped;
 
 /* What a run leaves: how many events were done and how many refused, the byte
  * count of a cut last record (it is not run), and the board. */
@@ -155,32 +219,28 @@ typedef struct whipsail_ran {
     whipsail_board board;
 } whipsail_ran;
 
-#if defined(__STDC_VERSION__) && __STDC_VERSION__ >= 201112L
-_Static_assert(sizeof(whipsail_event) == 24, "event");
-_Static_assert(sizeof(whipsail_call) == 40, "call");
-_Static_assert(sizeof(whipsail_station) == 16, "station");
-_Static_assert(sizeof(whipsail_board) == 2584, "board");
-_Static_assert(sizeof(whipsail_message) == 16, "message");
-_Static_assert(sizeof(whipsail_answer) == 64, "answer");
-_Static_assert(sizeof(whipsail_stepped) == 2648, "stepped");
-#endif
-
 /* A station of this limit: last time 0, next identifier 65535. */
 whipsail_made whipsail_fresh(uint8_t limit);
 
 /* The same with limit 15. */
 whipsail_station whipsail_fresh_short(void);
 
-/* One event. The table is tested every time. */
+/* One event on the `len` records at `table`, 1 to 64. `table` is not null, also
+ * where `len` is 0. A done event changes at most one record; a refused one none.
+ * The table is tested every time. */
+whipsail_told whipsail_lent_step(whipsail_call *table, size_t len, whipsail_input input);
+
+/* The same on a board by value. */
 whipsail_stepped whipsail_step(whipsail_board board, whipsail_event event);
 
-/* The event whose 24 bytes start at `place` among `len` bytes, which are read
- * and not kept. `bytes` is not null, also where `len` is 0. */
-whipsail_read whipsail_event_at(const uint8_t *bytes, size_t len, size_t place);
-
 /* All whole records of 24 bytes among `len` bytes, one after the other, as
- * whipsail_step would do them; the table is tested once. */
+ * whipsail_step would do them; the table is tested once. `bytes` is not null,
+ * also where `len` is 0. */
 whipsail_ran whipsail_run(whipsail_board board, const uint8_t *bytes, size_t len);
+
+/* The event whose 24 bytes, big-endian in the order of whipsail_event, start at
+ * `place` among `len` bytes. `bytes` is not null, also where `len` is 0. */
+whipsail_read whipsail_event_at(const uint8_t *bytes, size_t len, size_t place);
 
 /* Whether kind and fields are as the table of kinds says: if not, a step
  * refuses the event with 3. */
@@ -189,5 +249,7 @@ bool whipsail_well_made(whipsail_event event);
 #ifdef __cplusplus
 }
 #endif
+
+#include "whipsail_layout.h"
 
 #endif

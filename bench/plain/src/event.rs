@@ -2,7 +2,8 @@
 
 pub const SIZE: usize = 24;
 
-#[derive(Clone, Copy, Default)]
+#[derive(Clone, Copy, Debug, Default, PartialEq)]
+#[repr(C)]
 pub struct Event {
     pub kind: u8,
     pub call: u8,

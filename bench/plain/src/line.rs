@@ -1,6 +1,6 @@
 //! One line of the printout.
 
-use crate::step::Answer;
+use crate::answer::Answer;
 
 /// The longest line: 20 digits, eight columns, three messages.
 pub const LONGEST: usize = 80;

@@ -2,17 +2,14 @@
 //! plain scans, input and output in large pieces.
 #![forbid(unsafe_code)]
 
-mod call;
-mod event;
-mod line;
-mod step;
-
-use call::Station;
-use event::{Event, SIZE};
+use plain::answer::Answer;
+use plain::call::Call;
+use plain::event::{Event, SIZE};
+use plain::station::Station;
+use plain::{line, sound};
 use std::fs::File;
 use std::io::{self, Read, Write};
 use std::os::fd::AsFd;
-use step::Answer;
 
 /// Bytes read at once, in whole records, and written at once.
 const PIECE: usize = SIZE * 4096;
@@ -23,7 +20,8 @@ fn main() -> io::Result<()> {
     let mut read = vec![0; PIECE];
     let mut written = vec![0; PIECE + line::LONGEST];
     let mut station = Station::fresh();
-    let sound = station.sound();
+    let mut table = [Call::default(); 64];
+    let sound = sound::sound(&table, &station);
     let (mut held, mut out, mut position) = (0, 0, 0);
     loop {
         let count = input.read(&mut read[held..])?;
@@ -31,7 +29,7 @@ fn main() -> io::Result<()> {
         let (records, _) = read[..held].as_chunks::<SIZE>();
         for record in records {
             let answer = match sound {
-                true => station.step(&Event::decode(record)),
+                true => station.step(&mut table, &Event::decode(record)),
                 false => Answer::refused(1),
             };
             out += line::write(&mut written[out..], position, &answer);

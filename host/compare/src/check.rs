@@ -1,7 +1,7 @@
 //! The comparison: lists of events and single cases, and what is said of a
 //! difference.
 
-use crate::engine::Engine;
+use crate::engine::{Archive, Engine};
 use crate::wire::{Answer, Board, Stepped};
 use model::codes::OPEN_DIVERTED;
 use model::profile::{Profile, Walk};
@@ -40,7 +40,7 @@ impl Counts {
         }
     }
 
-    fn count(&mut self, answer: &Answer) {
+    pub fn count(&mut self, answer: &Answer) {
         self.0[usize::from(answer.code)] += 1;
     }
 }
@@ -59,9 +59,9 @@ pub struct Comparison<'a> {
 }
 
 impl Comparison<'_> {
-    pub fn new(reference: &Reference) -> Comparison<'_> {
+    pub fn new(archive: Archive, reference: &Reference) -> Comparison<'_> {
         Comparison {
-            engine: RefCell::new(Engine::start()),
+            engine: RefCell::new(Engine::start(archive)),
             reference,
         }
     }

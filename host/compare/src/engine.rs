@@ -1,15 +1,56 @@
 //! The library, behind the C program that serves it (`host/c/serve.c`).
 
 use crate::memory::{self, Reader};
-use crate::wire::{Board, Stepped};
+use crate::tables::{Laid, Told};
+use crate::wire::{Board, Ran, Stepped};
 use model::{Event, Station};
 use std::io::{Read, Write};
 use std::path::{Path, PathBuf};
 use std::process::{Child, ChildStdin, ChildStdout, Command, Stdio};
 
-/// Where a C program stands that was built with this crate.
-pub fn program(name: &str) -> PathBuf {
-    Path::new(env!("OUT_DIR")).join(name)
+/// Which archive a program was linked with.
+#[derive(Clone, Copy, Debug, PartialEq, Eq)]
+pub enum Archive {
+    /// `target/native`, for this machine.
+    Native,
+    /// `target/staticlib`, for x86-64: elsewhere an emulator runs it.
+    Proved,
+}
+
+impl Archive {
+    /// Those that differ: on x86-64 the native archive is the proved one.
+    pub fn all() -> &'static [Archive] {
+        match std::env::consts::ARCH {
+            "x86_64" => &[Archive::Native],
+            _ => &[Archive::Native, Archive::Proved],
+        }
+    }
+
+    /// One part in so many of a test is enough where an emulator runs it.
+    pub fn part(self, count: u64) -> u64 {
+        match self {
+            Archive::Native => count,
+            Archive::Proved => count.div_ceil(8),
+        }
+    }
+
+    /// A C program that was built with this crate.
+    pub fn program(self, name: &str) -> Command {
+        let out = Path::new(env!("OUT_DIR"));
+        match self {
+            Archive::Native => Command::new(out.join("native").join(name)),
+            Archive::Proved => {
+                let mut run = Command::new(host("c/run"));
+                run.arg(out.join("x86-64").join(name));
+                run
+            }
+        }
+    }
+}
+
+/// A file below `host/`.
+pub fn host(path: &str) -> PathBuf {
+    Path::new(env!("CARGO_MANIFEST_DIR")).join("..").join(path)
 }
 
 /// A running server; it ends when this is dropped.
@@ -20,14 +61,13 @@ pub struct Engine {
 }
 
 impl Engine {
-    pub fn start() -> Engine {
-        let run = Path::new(env!("CARGO_MANIFEST_DIR")).join("../c/run");
-        let mut child = Command::new(run)
-            .arg(program("serve"))
+    pub fn start(archive: Archive) -> Engine {
+        let mut child = archive
+            .program("serve")
             .stdin(Stdio::piped())
             .stdout(Stdio::piped())
             .spawn()
-            .expect("host/c/run starts the server");
+            .expect("the server starts");
         let requests = child.stdin.take();
         let replies = child.stdout.take().expect("a pipe");
         Engine {
@@ -74,6 +114,38 @@ impl Engine {
         reply
             .chunks_exact(memory::STEPPED)
             .map(|bytes| Reader(bytes).stepped())
+            .collect()
+    }
+
+    /// A run over bytes.
+    pub fn run(&mut self, board: &Board, bytes: &[u8]) -> Ran {
+        let mut commands = vec![b'B'];
+        memory::put_board(&mut commands, board);
+        commands.push(b'N');
+        commands.extend((bytes.len() as u64).to_le_bytes());
+        commands.extend(bytes);
+        Reader(&self.ask(&commands, memory::RAN)).ran()
+    }
+
+    /// Lends each table for one event.
+    pub fn lend(&mut self, cases: &[Laid]) -> Vec<Told> {
+        let mut commands = Vec::new();
+        for laid in cases {
+            let place = laid.lent();
+            commands.push(b'L');
+            for count in [laid.before.len(), place.start, place.len()] {
+                commands.extend((count as u64).to_le_bytes());
+            }
+            memory::put_station(&mut commands, &laid.station);
+            memory::put_event(&mut commands, &laid.event);
+            commands.extend(laid.before.iter().flatten());
+        }
+        let sizes = cases.iter().map(|laid| memory::told(laid.before.len()));
+        let reply = self.ask(&commands, sizes.sum());
+        let mut reader = Reader(&reply);
+        cases
+            .iter()
+            .map(|laid| reader.told(laid.before.len()))
             .collect()
     }
 

@@ -3,9 +3,10 @@
 
 use crate::wire::Board;
 use model::codes::MOST_RECORDS;
+use model::lent::{self, Case};
 use model::random::Random;
 use model::record::{COUNT, FIELDS};
-use model::{lent, Event, Record, Station};
+use model::{Event, Record, Station};
 
 /// Any value in every field, small ones as often as others.
 fn any_record(random: &mut Random) -> Record {
@@ -47,28 +48,96 @@ fn place<'a>(random: &mut Random, table: &'a mut [Record]) -> &'a mut Record {
     &mut table[at]
 }
 
+/// Damages a table or its station, mostly: some of it is sound still.
+fn damage(random: &mut Random, table: &mut [Record], station: &mut Station) {
+    match random.below(8) {
+        _ if table.is_empty() => *station = any_station(random),
+        0 => *station = any_station(random),
+        1 => station.limit = random.draw() as u8,
+        2 => *place(random, table) = any_record(random),
+        3 => table.fill_with(|| any_record(random)),
+        4 => {
+            let copied = *place(random, table);
+            *place(random, table) = copied;
+        }
+        _ => {
+            let turned = place(random, table);
+            *turned = bit_turned(random, *turned);
+        }
+    }
+}
+
 /// A board and an event for it.
 pub fn case(random: &mut Random) -> (Board, Event) {
     let (mut table, mut station) = lent::sound_start(random);
     let rest = any_rest(random);
-    match random.below(8) {
-        0 => station = any_station(random),
-        1 => station.limit = random.draw() as u8,
-        2 => *place(random, &mut table) = any_record(random),
-        3 => table.fill_with(|| any_record(random)),
-        4 => {
-            let copied = *place(random, &mut table);
-            *place(random, &mut table) = copied;
-        }
-        _ => {
-            let turned = place(random, &mut table);
-            *turned = bit_turned(random, *turned);
-        }
-    }
+    damage(random, &mut table, &mut station);
     let event = lent::event(random, &table, &station);
     let mut board = Board::of(&table, station, rest);
     if random.chance(5) {
         board.len = random.pick(&[0, 65, 66, 255, 256, 1 << 32, (1 << 32) + 3, u64::MAX]);
     }
     (board, event)
+}
+
+/// A lent table of 0 to 70 records, sound or damaged, with an event.
+pub fn table(random: &mut Random) -> Case {
+    let mut station = lent::station(random);
+    let length = match random.below(8) {
+        0 => random.below(71),
+        1 => 60 + random.below(11),
+        _ => 1 + random.below(6),
+    };
+    let mut table = lent::table(random, length as usize, &station);
+    match random.below(4) {
+        0 => {}
+        1 => lent::damage(random, &mut table, &mut station),
+        _ => damage(random, &mut table, &mut station),
+    }
+    let event = lent::event(random, &table, &station);
+    Case {
+        table,
+        station,
+        event,
+    }
+}
+
+/// The edges of a field of so many bits, and what is just beyond them: of a
+/// byte every value.
+fn edges(width: u32, station: &Station) -> Vec<u64> {
+    let last = station.last_time;
+    match width {
+        8 => (0..=255).collect(),
+        16 => vec![0, 1, 2, 255, 256, 32_767, 32_768, 65_534, 65_535],
+        _ => vec![
+            0,
+            1,
+            last.saturating_sub(1),
+            last,
+            last.saturating_add(1),
+            u64::MAX,
+        ],
+    }
+}
+
+/// Three sound records, with each edge of each field of the middle one in turn.
+pub fn at_every_edge(random: &mut Random) -> Vec<Case> {
+    let station = lent::station(random);
+    let table = lent::table(random, 3, &station);
+    let mut cases = Vec::new();
+    for (field, (_, width)) in FIELDS.into_iter().enumerate() {
+        for edge in edges(width, &station) {
+            let mut table = table.clone();
+            let mut values = table[1].values();
+            values[field] = edge;
+            table[1] = Record::from_values(&values);
+            let event = lent::event(random, &table, &station);
+            cases.push(Case {
+                table,
+                station,
+                event,
+            });
+        }
+    }
+    cases
 }

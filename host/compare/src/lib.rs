@@ -7,7 +7,9 @@ pub mod check;
 pub mod engine;
 pub mod hostile;
 pub mod memory;
+pub mod tables;
 pub mod wire;
+pub mod wrapped;
 
-pub use engine::Engine;
+pub use engine::{Archive, Engine};
 pub use wire::{Board, Stepped};

@@ -1,6 +1,7 @@
 //! How the library's structs lie in memory (`whipsail.h`), little-endian.
 
-use crate::wire::{Answer, Board, Message, Stepped};
+use crate::tables::Told;
+use crate::wire::{Answer, Board, Message, Ran, Stepped};
 use model::codes::MOST_RECORDS;
 use model::{Event, Record, Station};
 
@@ -12,6 +13,13 @@ pub const BOARD: usize = 2584;
 pub const STEPPED: usize = 2648;
 pub const MADE: usize = 24;
 pub const READ: usize = 32;
+pub const RAN: usize = 2608;
+pub const ANSWER: usize = 64;
+
+/// Of `whipsail_told` and so many records behind it.
+pub fn told(records: usize) -> usize {
+    ANSWER + STATION + records * CALL
+}
 
 /// Stands in padding, which nobody may read.
 const PADDING: u8 = 0xEE;
@@ -27,7 +35,7 @@ pub fn put_event(out: &mut Vec<u8>, e: &Event) {
     out.extend(e.time.to_le_bytes());
 }
 
-fn put_call(out: &mut Vec<u8>, r: &Record) {
+pub fn put_call(out: &mut Vec<u8>, r: &Record) {
     out.extend([r.direction, r.basic, r.cdo, r.cdr]);
     out.extend([r.cds, r.cdf, r.granted, r.counter]);
     twos(out, &[r.leg1]);
@@ -40,11 +48,15 @@ fn put_call(out: &mut Vec<u8>, r: &Record) {
     out.extend(r.start.to_le_bytes());
 }
 
+pub fn put_station(out: &mut Vec<u8>, s: &Station) {
+    out.extend(s.last_time.to_le_bytes());
+    twos(out, &[s.next_identifier]);
+    out.extend([s.limit, PADDING, PADDING, PADDING, PADDING, PADDING]);
+}
+
 pub fn put_board(out: &mut Vec<u8>, b: &Board) {
     let before = out.len();
-    out.extend(b.station.last_time.to_le_bytes());
-    twos(out, &[b.station.next_identifier]);
-    out.extend([b.station.limit, PADDING, PADDING, PADDING, PADDING, PADDING]);
+    put_station(out, &b.station);
     out.extend(b.len.to_le_bytes());
     b.calls.iter().for_each(|call| put_call(out, call));
     assert_eq!(out.len() - before, BOARD);
@@ -123,7 +135,7 @@ impl Reader<'_> {
         (whole, self.event())
     }
 
-    fn call(&mut self) -> Record {
+    pub fn call(&mut self) -> Record {
         let [direction, basic, cdo, cdr, cds, cdf, granted, counter] = self.take();
         let leg1 = self.two();
         let [waiting_reason, waiting_option] = self.take();
@@ -197,16 +209,36 @@ impl Reader<'_> {
         }
     }
 
+    fn board(&mut self) -> Board {
+        Board {
+            station: self.station(),
+            len: self.eight(),
+            calls: [(); MOST_RECORDS].map(|()| self.call()),
+        }
+    }
+
     pub fn stepped(&mut self) -> Stepped {
-        let answer = self.answer();
-        let station = self.station();
-        let len = self.eight();
-        let calls = [(); MOST_RECORDS].map(|()| self.call());
-        let board = Board {
-            station,
-            len,
-            calls,
-        };
-        Stepped { answer, board }
+        Stepped {
+            answer: self.answer(),
+            board: self.board(),
+        }
+    }
+
+    pub fn ran(&mut self) -> Ran {
+        Ran {
+            done: self.eight(),
+            refused: self.eight(),
+            cut: self.eight(),
+            board: self.board(),
+        }
+    }
+
+    /// The answer and the station, and so many records as they lie.
+    pub fn told(&mut self, records: usize) -> Told {
+        Told {
+            answer: self.answer(),
+            station: self.station(),
+            after: (0..records).map(|_| self.take()).collect(),
+        }
     }
 }

@@ -46,6 +46,15 @@ pub struct Stepped {
     pub board: Board,
 }
 
+/// What a run hands back.
+#[derive(Clone, Debug, PartialEq, Eq)]
+pub struct Ran {
+    pub done: u64,
+    pub refused: u64,
+    pub cut: u64,
+    pub board: Board,
+}
+
 impl Board {
     /// "starts with 64 free records and a fresh station of limit 15"
     pub fn panel() -> Board {

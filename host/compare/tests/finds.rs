@@ -3,7 +3,8 @@
 #![forbid(unsafe_code)]
 
 use compare::check::{Comparison, Reference};
-use compare::{hostile, Board};
+use compare::tables::{report, Laid};
+use compare::{hostile, wrapped, Archive, Board};
 use model::codes::*;
 use model::profile::Profile;
 use model::random::Random;
@@ -21,7 +22,7 @@ fn events(said: &str) -> Vec<&str> {
 /// Runs the profile until the difference is found; the report has at most
 /// that many events.
 fn found(profile: Profile, wrong: &Reference, most: usize) -> String {
-    let said = Comparison::new(wrong)
+    let said = Comparison::new(Archive::Native, wrong)
         .walk(profile, 1, &Board::panel(), 50_000)
         .expect_err("a wrong model is found");
     let count = events(&said).len();
@@ -97,24 +98,49 @@ fn one_field_of_one_record() {
     assert!(said.contains("answer call 0"), "{said}");
 }
 
+/// Takes any T1 start.
+fn any_start(table: &mut [Record], station: &mut Station, event: &Event) -> Answer {
+    let last = station.last_time;
+    station.last_time = u64::MAX;
+    let sound = model::sound::lent_sound(table, station);
+    station.last_time = last;
+    if sound && event.time < last {
+        return Answer::refused(2);
+    }
+    step(table, station, event)
+}
+
 #[test]
 fn one_sentence_of_soundness() {
-    let wrong = |table: &mut [Record], station: &mut Station, event: &Event| {
-        // Takes any T1 start.
-        let last = station.last_time;
-        station.last_time = u64::MAX;
-        let sound = model::sound::lent_sound(table, station);
-        station.last_time = last;
-        if sound && event.time < last {
-            return Answer::refused(2);
-        }
-        step(table, station, event)
-    };
-    let comparison = Comparison::new(&wrong);
+    let comparison = Comparison::new(Archive::Native, &any_start);
     let mut random = Random::new(3);
     let cases: Vec<_> = (0..50_000).map(|_| hostile::case(&mut random)).collect();
     let said = comparison.cases(&cases).expect_err("it is found");
     assert_eq!(events(&said).len(), 1, "{said}");
     let records = said.lines().filter(|line| line.contains("Record {"));
     assert_eq!(records.count(), 1, "{said}");
+}
+
+#[test]
+fn one_sentence_of_soundness_of_a_lent_table() {
+    let mut random = Random::new(4);
+    let wrong = (0..50_000)
+        .map(|_| Laid::new(hostile::table(&mut random)))
+        .find(|laid| laid.fault(&wrapped::lend(laid), &any_start).is_some());
+    let said = report(&wrong.expect("it is found"), &any_start, wrapped::lend);
+    let records = said.lines().filter(|line| line.contains("Record {"));
+    assert_eq!(records.count(), 1, "{said}");
+}
+
+#[test]
+fn one_byte_around_a_lent_table() {
+    let mut random = Random::new(5);
+    let laid = Laid::new(hostile::table(&mut random));
+    let told = wrapped::lend(&laid);
+    assert_eq!(laid.fault(&told, &step), None);
+    for at in [0, 1, told.after.len() - 2, told.after.len() - 1] {
+        let mut touched = told.clone();
+        touched.after[at][29] ^= 1;
+        assert!(laid.fault(&touched, &step).is_some());
+    }
 }

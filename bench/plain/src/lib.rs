@@ -1,0 +1,13 @@
+//! The engine in plain Rust, written for speed: one table in place, plain scans,
+//! early exits. Its structs lie in memory as those of `whipsail.h`, so that both
+//! engines can be lent the same table.
+#![forbid(unsafe_code)]
+
+pub mod answer;
+pub mod call;
+pub mod event;
+pub mod lent;
+pub mod line;
+pub mod rules;
+pub mod sound;
+pub mod station;

@@ -1,0 +1,48 @@
+//! What the wrapper's readers say of a record is what the model holds.
+#![forbid(unsafe_code)]
+
+use compare::memory;
+use model::random::Random;
+use model::{lent, Record};
+use whipsail::{Basic, Call, Direction, Number, Reason};
+
+fn read(record: &Record) -> Call {
+    let mut bytes = Vec::new();
+    memory::put_call(&mut bytes, record);
+    Call::from_bytes(bytes.try_into().expect("a whole record"))
+}
+
+fn same(record: &Record, call: &Call) {
+    let number = Number::new;
+    assert_eq!(call.is_free(), record.is_free());
+    assert_eq!(call.direction(), Direction::of(record.direction));
+    assert_eq!(call.basic(), Basic::of(record.basic));
+    assert_eq!(call.party(), number(record.leg1));
+    assert_eq!(call.forwarded(), number(record.leg2));
+    assert_eq!(call.nominated(), number(record.nominated));
+    assert_eq!(call.number_shown(), record.shown == 1);
+    assert_eq!(call.own(), number(record.own));
+    assert_eq!(call.counter().unwrap_or(0), record.counter);
+    assert_eq!(call.diverting(), number(record.diverting));
+    assert_eq!(call.original(), number(record.original));
+    let request = call.request();
+    assert_eq!(request.is_some(), record.is_requested());
+    if let Some(request) = request {
+        assert_eq!(request.identifier, record.identifier);
+        assert_eq!(request.start, record.start);
+        assert_eq!(request.reason.number(), record.reason);
+    }
+    let granted = record.is_granted().then_some(record.reason);
+    assert_eq!(call.granted().map(Reason::number), granted);
+}
+
+#[test]
+fn readers_say_what_a_record_holds() {
+    let mut random = Random::new(1);
+    for _ in 0..5_000 {
+        let (table, _) = lent::sound_start(&mut random);
+        for record in &table {
+            same(record, &read(record));
+        }
+    }
+}

@@ -1,0 +1,69 @@
+/* Where each field of whipsail.h lies, asserted when a host is compiled: a
+ * compiler that lays a struct out in another way is refused.
+ *
+ * The numbers are checked, not copied: host/compare/tests/layout.rs holds them to
+ * the structs of the crates (names, order and widths of all fields) and to the
+ * compiled module (the places that its functions write and the sizes that they
+ * take and hand back). */
+#ifndef WHIPSAIL_LAYOUT_H
+#define WHIPSAIL_LAYOUT_H
+
+/* SIZE(struct, bytes), then AT(struct, field, offset) for each field. */
+#define WHIPSAIL_LAYOUT(SIZE, AT)                                                                                      \
+    SIZE(event, 24)                                                                                                    \
+    AT(event, kind, 0) AT(event, call, 1) AT(event, leg, 2) AT(event, message, 3)                                      \
+    AT(event, reason, 4) AT(event, option, 5) AT(event, counter, 6) AT(event, flag, 7)                                 \
+    AT(event, identifier, 8) AT(event, first, 10) AT(event, second, 12) AT(event, third, 14)                           \
+    AT(event, time, 16)                                                                                                \
+    SIZE(dli1, 4)                                                                                                      \
+    AT(dli1, reason, 0) AT(dli1, option, 1) AT(dli1, number, 2)                                                        \
+    SIZE(history, 6)                                                                                                   \
+    AT(history, seen, 0) AT(history, strictest, 1) AT(history, forbidden, 2) AT(history, shown, 3)                     \
+    AT(history, nominated, 4)                                                                                          \
+    SIZE(call, 40)                                                                                                     \
+    AT(call, direction, 0) AT(call, basic, 1) AT(call, cdo, 2) AT(call, cdr, 3)                                        \
+    AT(call, cds, 4) AT(call, cdf, 5) AT(call, granted, 6) AT(call, counter, 7)                                        \
+    AT(call, party, 8) AT(call, waiting, 10) AT(call, history, 14) AT(call, own, 20)                                   \
+    AT(call, diverting, 22) AT(call, original, 24) AT(call, identifier, 26) AT(call, reason, 28)                       \
+    AT(call, start, 32)                                                                                                \
+    SIZE(station, 16)                                                                                                  \
+    AT(station, last, 0) AT(station, next, 8) AT(station, limit, 10)                                                   \
+    SIZE(message, 16)                                                                                                  \
+    AT(message, letter, 0) AT(message, leg, 1) AT(message, reason, 2) AT(message, option, 3)                           \
+    AT(message, counter, 4) AT(message, flag, 5) AT(message, identifier, 6) AT(message, destination, 8)                \
+    AT(message, diverting, 10) AT(message, original, 12) AT(message, number, 14)                                       \
+    SIZE(answer, 64)                                                                                                   \
+    AT(answer, code, 0) AT(answer, call, 1) AT(answer, sent, 2) AT(answer, notice, 50)                                 \
+    AT(answer, number, 52) AT(answer, identifier, 56) AT(answer, counter, 60)                                          \
+    SIZE(input, 40)                                                                                                    \
+    AT(input, station, 0) AT(input, event, 16)                                                                         \
+    SIZE(told, 80)                                                                                                     \
+    AT(told, answer, 0) AT(told, station, 64)                                                                          \
+    SIZE(made, 24)                                                                                                     \
+    AT(made, code, 0) AT(made, station, 8)                                                                             \
+    SIZE(read, 32)                                                                                                     \
+    AT(read, whole, 0) AT(read, event, 8)                                                                              \
+    SIZE(board, 2584)                                                                                                  \
+    AT(board, station, 0) AT(board, len, 16) AT(board, calls, 24)                                                      \
+    SIZE(stepped, 2648)                                                                                                \
+    AT(stepped, answer, 0) AT(stepped, board, 64)                                                                      \
+    SIZE(ran, 2608)                                                                                                    \
+    AT(ran, done, 0) AT(ran, refused, 8) AT(ran, cut, 16) AT(ran, board, 24)
+
+#if defined(__cplusplus) && __cplusplus >= 201103L
+#define WHIPSAIL_HOLDS(fact, name) static_assert(fact, name);
+#elif defined(__STDC_VERSION__) && __STDC_VERSION__ >= 201112L
+#define WHIPSAIL_HOLDS(fact, name) _Static_assert(fact, name);
+#endif
+
+#ifdef WHIPSAIL_HOLDS
+#define WHIPSAIL_SIZE(type, bytes) WHIPSAIL_HOLDS(sizeof(whipsail_##type) == bytes, "size of " #type)
+#define WHIPSAIL_AT(type, field, at) WHIPSAIL_HOLDS(offsetof(whipsail_##type, field) == at, #type "." #field)
+WHIPSAIL_LAYOUT(WHIPSAIL_SIZE, WHIPSAIL_AT)
+WHIPSAIL_HOLDS(sizeof(size_t) == 8, "a machine of 64 bits")
+#undef WHIPSAIL_SIZE
+#undef WHIPSAIL_AT
+#undef WHIPSAIL_HOLDS
+#endif
+
+#endif

@@ -1,0 +1,157 @@
+//! What a done event gives.
+
+use crate::{raw, Choice, Leg, Number, Reason};
+
+/// The answer to a done event.
+#[derive(Clone, Copy, Debug, PartialEq, Eq)]
+pub struct Answer {
+    /// The record that the event was about; none at a clock event with nothing
+    /// due.
+    pub call: Option<u8>,
+    /// The messages to send, in this order; `None` past the last one.
+    pub sent: [Option<Message>; 3],
+    /// The reason to tell the caller: the call is diverted.
+    pub notice: Option<Reason>,
+    /// The number to show to the caller.
+    pub number: Option<Number>,
+    /// The identifier of a message that is sent, or of a request that a clock
+    /// event has ended.
+    pub identifier: Option<u16>,
+    /// The counter of a message that is sent.
+    pub counter: Option<u8>,
+}
+
+/// A message to send, on its leg.
+#[derive(Clone, Copy, Debug, PartialEq, Eq)]
+#[allow(missing_docs)] // fields that are named by what they hold
+pub enum Message {
+    /// ALERTING.
+    Alerting { leg: Leg },
+    /// CONNECT.
+    Connect { leg: Leg },
+    /// CONNECT with divertingLegInformation3: the own number, if it may be shown.
+    ConnectDli3 {
+        leg: Leg,
+        allowed: bool,
+        number: Option<Number>,
+    },
+    /// The callRerouting invoke, which asks the far end to divert the call to
+    /// its destination. The counter has this diversion in it; `last` is the last
+    /// rerouting number, which is the own one.
+    Invoke {
+        leg: Leg,
+        reason: Reason,
+        option: Choice,
+        counter: u8,
+        identifier: u16,
+        destination: Number,
+        last: Number,
+        original: Option<Number>,
+    },
+    /// The return result of the callRerouting invoke with this identifier.
+    Result { leg: Leg, identifier: u16 },
+    /// Its return error.
+    Error { leg: Leg, identifier: u16 },
+    /// RELEASE COMPLETE.
+    ReleaseComplete { leg: Leg },
+    /// SETUP with divertingLegInformation2 to the destination.
+    Setup {
+        leg: Leg,
+        reason: Reason,
+        counter: u8,
+        destination: Number,
+        diverting: Number,
+        original: Option<Number>,
+    },
+    /// cfnrDivertedLegFailed.
+    LegFailed { leg: Leg },
+}
+
+impl Answer {
+    /// The messages to send, in order.
+    pub fn messages(&self) -> impl Iterator<Item = &Message> {
+        self.sent.iter().flatten()
+    }
+
+    pub(crate) fn read(a: &raw::Answer) -> Answer {
+        Answer {
+            call: (a.call != 255).then_some(a.call),
+            sent: a.sent.map(|message| Message::read(&message)),
+            notice: Reason::of(a.notice),
+            number: Number::new(a.number),
+            identifier: u16::try_from(a.identifier).ok(),
+            counter: (a.counter != 0).then_some(a.counter),
+        }
+    }
+}
+
+impl Message {
+    /// The letter of the panel printout.
+    pub const fn letter(&self) -> char {
+        match self {
+            Message::Alerting { .. } => 'A',
+            Message::Connect { .. } => 'C',
+            Message::ConnectDli3 { .. } => 'D',
+            Message::Invoke { .. } => 'I',
+            Message::Result { .. } => 'R',
+            Message::Error { .. } => 'E',
+            Message::ReleaseComplete { .. } => 'X',
+            Message::Setup { .. } => 'S',
+            Message::LegFailed { .. } => 'F',
+        }
+    }
+
+    /// The leg to send it on.
+    pub const fn leg(&self) -> Leg {
+        match *self {
+            Message::Alerting { leg }
+            | Message::Connect { leg }
+            | Message::ConnectDli3 { leg, .. }
+            | Message::Invoke { leg, .. }
+            | Message::Result { leg, .. }
+            | Message::Error { leg, .. }
+            | Message::ReleaseComplete { leg }
+            | Message::Setup { leg, .. }
+            | Message::LegFailed { leg } => leg,
+        }
+    }
+
+    /// None of letter 0. The engine is proved to send these letters alone, and
+    /// no leg, reason, option or number that is not one.
+    fn read(m: &raw::Message) -> Option<Message> {
+        let leg = Leg::of(m.leg)?;
+        let identifier = m.identifier;
+        Some(match m.letter {
+            b'A' => Message::Alerting { leg },
+            b'C' => Message::Connect { leg },
+            b'D' => Message::ConnectDli3 {
+                leg,
+                allowed: m.flag == 1,
+                number: Number::new(m.number),
+            },
+            b'I' => Message::Invoke {
+                leg,
+                reason: Reason::of(m.reason)?,
+                option: Choice::of(m.option)?,
+                counter: m.counter,
+                identifier,
+                destination: Number::new(m.destination)?,
+                last: Number::new(m.diverting)?,
+                original: Number::new(m.original),
+            },
+            b'R' => Message::Result { leg, identifier },
+            b'E' => Message::Error { leg, identifier },
+            b'X' => Message::ReleaseComplete { leg },
+            b'S' => Message::Setup {
+                leg,
+                reason: Reason::of(m.reason)?,
+                counter: m.counter,
+                destination: Number::new(m.destination)?,
+                diverting: Number::new(m.diverting)?,
+                original: Number::new(m.original),
+            },
+            b'F' => Message::LegFailed { leg },
+            _ => return None,
+        })
+    }
+}

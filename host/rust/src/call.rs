@@ -1,0 +1,238 @@
+//! Call records.
+
+use crate::raw::{self, lies};
+use crate::{Basic, Direction, Number, Reason};
+use core::fmt;
+
+/// One record of the table that a host owns and lends. The engine alone writes
+/// it; the readers say what a panel may want to show. Of a record that no
+/// engine has left, as of damaged memory, they say what they can.
+#[derive(Clone, Copy)]
+#[repr(C)]
+pub struct Call {
+    direction: u8,
+    basic: u8,
+    cdo: u8,
+    cdr: u8,
+    cds: u8,
+    cdf: u8,
+    granted: u8,
+    counter: u8,
+    party: u16,
+    waiting: Dli1,
+    history: History,
+    own: u16,
+    diverting: u16,
+    original: u16,
+    identifier: u16,
+    reason: u8,
+    /// Not told by the library: whatever stands here.
+    padding: [u8; 3],
+    start: u64,
+}
+
+#[derive(Clone, Copy)]
+#[repr(C)]
+struct Dli1 {
+    reason: u8,
+    option: u8,
+    number: u16,
+}
+
+#[derive(Clone, Copy)]
+#[repr(C)]
+struct History {
+    seen: u8,
+    strictest: u8,
+    forbidden: u8,
+    shown: u8,
+    nominated: u16,
+}
+
+lies!(Call, 40, direction 0 basic 1 cdo 2 cdr 3 cds 4 cdf 5 granted 6 counter 7 party 8
+    waiting 10 history 14 own 20 diverting 22 original 24 identifier 26 reason 28
+    padding 29 start 32);
+lies!(Dli1, 4, reason 0 option 1 number 2);
+lies!(History, 6, seen 0 strictest 1 forbidden 2 shown 3 nominated 4);
+
+/// An open callRerouting request of an incoming call.
+#[derive(Clone, Copy, Debug, PartialEq, Eq)]
+pub struct Request {
+    /// The identifier that its result or error will bear.
+    pub identifier: u16,
+    /// Why the call is to be diverted.
+    pub reason: Reason,
+    /// When it was sent, in ms; 10 s later a clock event ends it.
+    pub start: u64,
+}
+
+impl Call {
+    /// A free record.
+    pub const FREE: Call = Call {
+        direction: 0,
+        basic: 0,
+        cdo: 0,
+        cdr: 0,
+        cds: 0,
+        cdf: 0,
+        granted: 0,
+        counter: 0,
+        party: 0,
+        waiting: Dli1 {
+            reason: 0,
+            option: 0,
+            number: 0,
+        },
+        history: History {
+            seen: 0,
+            strictest: 0,
+            forbidden: 0,
+            shown: 0,
+            nominated: 0,
+        },
+        own: 0,
+        diverting: 0,
+        original: 0,
+        identifier: 0,
+        reason: 0,
+        padding: [0; 3],
+        start: 0,
+    };
+
+    /// Whether a call may be opened here.
+    pub const fn is_free(&self) -> bool {
+        self.direction == 0
+    }
+
+    /// Who made the call; none of a free record.
+    pub const fn direction(&self) -> Option<Direction> {
+        Direction::of(self.direction)
+    }
+
+    /// The basic state; none of a free record.
+    pub const fn basic(&self) -> Option<Basic> {
+        Basic::of(self.basic)
+    }
+
+    /// The party on leg 1 of an outgoing call.
+    pub const fn party(&self) -> Option<Number> {
+        Number::new(self.party)
+    }
+
+    /// The party on leg 2 of an outgoing call, while a no-reply diversion tries it.
+    pub const fn forwarded(&self) -> Option<Number> {
+        Number::new(self.waiting.number)
+    }
+
+    /// The number that an outgoing call was last said to be diverted to.
+    pub const fn nominated(&self) -> Option<Number> {
+        Number::new(self.history.nominated)
+    }
+
+    /// Whether a number of the diverted-to party was shown to the caller.
+    pub const fn number_shown(&self) -> bool {
+        self.history.shown == 1
+    }
+
+    /// The station's own number that an incoming call was made to.
+    pub const fn own(&self) -> Option<Number> {
+        Number::new(self.own)
+    }
+
+    /// How often an incoming call was diverted before; none if it was not.
+    pub const fn counter(&self) -> Option<u8> {
+        match self.counter {
+            0 => None,
+            counter => Some(counter),
+        }
+    }
+
+    /// The number from which an incoming call was diverted.
+    pub const fn diverting(&self) -> Option<Number> {
+        Number::new(self.diverting)
+    }
+
+    /// The number that an incoming call was first made to.
+    pub const fn original(&self) -> Option<Number> {
+        Number::new(self.original)
+    }
+
+    /// The open request to divert an incoming call.
+    pub const fn request(&self) -> Option<Request> {
+        match (self.cds, Reason::of(self.reason)) {
+            (1, Some(reason)) => Some(Request {
+                identifier: self.identifier,
+                reason,
+                start: self.start,
+            }),
+            _ => None,
+        }
+    }
+
+    /// The reason of a request that was granted, while the call still stands.
+    pub const fn granted(&self) -> Option<Reason> {
+        match self.granted {
+            1 => Reason::of(self.reason),
+            _ => None,
+        }
+    }
+
+    /// The 40 bytes as they lie in this machine's memory, to keep them elsewhere.
+    /// Bytes 29 to 31 are padding, and may be anything.
+    pub fn to_bytes(&self) -> [u8; 40] {
+        raw::bytes_of(*self)
+    }
+
+    /// The record of bytes that were kept. Any bytes will do: a table that is
+    /// not sound is refused when it is lent.
+    pub fn from_bytes(bytes: [u8; 40]) -> Call {
+        raw::call_of(bytes)
+    }
+
+    fn unpadded(&self) -> [u8; 40] {
+        let padding = [0; 3];
+        Call { padding, ..*self }.to_bytes()
+    }
+}
+
+impl Default for Call {
+    fn default() -> Call {
+        Call::FREE
+    }
+}
+
+/// Padding aside.
+impl PartialEq for Call {
+    fn eq(&self, other: &Call) -> bool {
+        self.unpadded() == other.unpadded()
+    }
+}
+
+impl Eq for Call {}
+
+impl fmt::Debug for Call {
+    fn fmt(&self, f: &mut fmt::Formatter<'_>) -> fmt::Result {
+        match self.direction() {
+            _ if *self == Call::FREE => f.write_str("Call::FREE"),
+            Some(Direction::Outgoing) => f
+                .debug_struct("Outgoing")
+                .field("basic", &self.basic())
+                .field("party", &self.party())
+                .field("forwarded", &self.forwarded())
+                .field("nominated", &self.nominated())
+                .field("number_shown", &self.number_shown())
+                .finish_non_exhaustive(),
+            Some(Direction::Incoming) => f
+                .debug_struct("Incoming")
+                .field("basic", &self.basic())
+                .field("own", &self.own())
+                .field("counter", &self.counter())
+                .field("diverting", &self.diverting())
+                .field("original", &self.original())
+                .field("request", &self.request())
+                .field("granted", &self.granted())
+                .finish_non_exhaustive(),
+            None => f.debug_tuple("Damaged").field(&self.to_bytes()).finish(),
+        }
+    }
+}

@@ -1,0 +1,151 @@
+//! Events.
+
+use crate::{raw, Choice, Leg, Number, Reason};
+
+/// An event and its time.
+#[derive(Clone, Copy, Debug, PartialEq, Eq)]
+pub struct Event {
+    /// In ms; never before that of the last done event.
+    pub time: u64,
+    /// What happened.
+    pub kind: Kind,
+}
+
+/// What happened, with what the engine needs to know of it. A `call` is the
+/// place of its record, which the answer to its open named.
+#[derive(Clone, Copy, Debug, PartialEq, Eq)]
+#[allow(missing_docs)] // fields that are named by what they hold
+pub enum Kind {
+    /// The host has sent a SETUP to this party.
+    OpenOutgoing { party: Number },
+    /// A SETUP has come for this own number.
+    OpenIncoming { own: Number },
+    /// The same with divertingLegInformation2; the counter is 1 to 15.
+    OpenDiverted {
+        own: Number,
+        reason: Reason,
+        counter: u8,
+        diverting: Option<Number>,
+        original: Option<Number>,
+    },
+    /// An incoming call rings.
+    Alerted { call: u8 },
+    /// The user answers; `allowed`: the own number may be shown to the caller.
+    Answered { call: u8, allowed: bool },
+    /// The user diverts an incoming call, for a reason other than unknown.
+    Divert {
+        call: u8,
+        reason: Reason,
+        option: Choice,
+        destination: Number,
+    },
+    /// The result of the callRerouting invoke with this identifier.
+    Result { call: u8, identifier: u16 },
+    /// Its error or reject.
+    Error { call: u8, identifier: u16 },
+    /// cfnrDivertedLegFailed was received.
+    LegFailed { call: u8 },
+    /// Time has passed. An answer that names a call ended its request: send
+    /// another one, until it names none.
+    Clock,
+    /// The own side ends the call.
+    End { call: u8 },
+    /// A callRerouting invoke was received on an outgoing call, for a reason
+    /// other than unknown; the counter is 1 to 15.
+    Reroute {
+        call: u8,
+        leg: Leg,
+        reason: Reason,
+        option: Choice,
+        counter: u8,
+        identifier: u16,
+        destination: Number,
+        original: Option<Number>,
+    },
+    /// divertingLegInformation1 was received on an outgoing call.
+    Dli1 {
+        call: u8,
+        reason: Reason,
+        option: Choice,
+        nominated: Number,
+    },
+    /// A message was received on an outgoing call.
+    Received {
+        call: u8,
+        leg: Leg,
+        message: Received,
+    },
+    /// The far end ends an incoming call.
+    FarEnd { call: u8 },
+    /// All of a record but its time, for one that is none of the above: the
+    /// engine refuses it with [`NotWellMade`](crate::Refusal::NotWellMade).
+    Raw([u8; 16]),
+}
+
+/// A message that was received.
+#[derive(Clone, Copy, Debug, PartialEq, Eq)]
+pub enum Received {
+    /// FACILITY.
+    Facility(Dli3),
+    /// ALERTING.
+    Alerting(Option<Dli3>),
+    /// CONNECT.
+    Connect(Option<Dli3>),
+    /// RELEASE COMPLETE.
+    ReleaseComplete,
+}
+
+/// A divertingLegInformation3.
+#[derive(Clone, Copy, Debug, PartialEq, Eq)]
+pub struct Dli3 {
+    /// Whether the number may be shown.
+    pub allowed: bool,
+    /// The number of the diverted-to party.
+    pub number: Option<Number>,
+}
+
+impl Event {
+    /// An event at a time in ms.
+    pub const fn at(time: u64, kind: Kind) -> Event {
+        Event { time, kind }
+    }
+
+    /// The event of a record of 24 bytes. Every record is read, also one that
+    /// is not well made, and `to_bytes` gives its bytes again.
+    pub fn from_bytes(bytes: &[u8; 24]) -> Event {
+        let raw = raw::event_of(bytes);
+        let known = Kind::read(&raw).filter(|kind| kind.raw(raw.time) == raw);
+        let kind = known.unwrap_or_else(|| {
+            let mut first = [0; 16];
+            first.copy_from_slice(&bytes[..16]);
+            Kind::Raw(first)
+        });
+        Event::at(raw.time, kind)
+    }
+
+    /// The record of 24 bytes, big-endian.
+    pub fn to_bytes(&self) -> [u8; 24] {
+        let e = self.raw();
+        let mut bytes = [0; 24];
+        let small = [
+            e.kind, e.call, e.leg, e.message, e.reason, e.option, e.counter, e.flag,
+        ];
+        bytes[..8].copy_from_slice(&small);
+        let numbers = [e.identifier, e.first, e.second, e.third];
+        for (place, number) in bytes[8..16].chunks_exact_mut(2).zip(numbers) {
+            place.copy_from_slice(&number.to_be_bytes());
+        }
+        bytes[16..].copy_from_slice(&e.time.to_be_bytes());
+        bytes
+    }
+
+    /// Whether the engine takes its kind and fields; if not, a step refuses it
+    /// with [`NotWellMade`](crate::Refusal::NotWellMade).
+    pub fn is_well_made(&self) -> bool {
+        raw::well_made(self.raw())
+    }
+
+    pub(crate) fn raw(&self) -> raw::Event {
+        self.kind.raw(self.time)
+    }
+}

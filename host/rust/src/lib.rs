@@ -1,0 +1,54 @@
+//! The proved call diversion engine (ITU-T H.450.3) for a host in Rust.
+//!
+//! The host owns a table of 1 to 64 [`Call`] records and a [`Station`], and
+//! lends the table for one [`Event`] at a time. A done event gives an [`Answer`]:
+//! the messages to send, and what to show to the caller. A [`Refusal`] says
+//! what to do, and leaves table and station as they were.
+//!
+//! ```
+//! use whipsail::{Call, Event, Kind, Number, Refusal, Station};
+//!
+//! # fn main() -> Result<(), Refusal> {
+//! let mut table = [Call::FREE; 64];
+//! let mut station = Station::fresh(15)?;
+//!
+//! let own = Number::new(102).unwrap();
+//! let answer = station.step(&mut table, &Event::at(4, Kind::OpenIncoming { own }))?;
+//! assert_eq!(answer.call, Some(0));
+//!
+//! let early = Event::at(3, Kind::Clock);
+//! assert_eq!(station.step(&mut table, &early), Err(Refusal::TimeBefore));
+//! # Ok(())
+//! # }
+//! ```
+//!
+//! Nothing is allocated, and neither `std` nor any other crate is needed.
+#![no_std]
+#![deny(unsafe_op_in_unsafe_fn)]
+
+#[cfg(test)]
+extern crate std;
+
+mod answer;
+mod call;
+mod code;
+mod event;
+mod kinds;
+mod raw;
+mod refusal;
+mod station;
+#[cfg(test)]
+mod tests;
+
+pub use answer::{Answer, Message};
+pub use call::{Call, Request};
+pub use code::{Basic, Choice, Direction, Leg, Reason};
+pub use event::{Dli3, Event, Kind, Received};
+pub use refusal::Refusal;
+pub use station::Station;
+
+/// A party number, 1 to 65,535; an absent one is `None`.
+pub type Number = core::num::NonZeroU16;
+
+/// The most records that a table may have.
+pub const MOST_RECORDS: usize = 64;

@@ -1,0 +1,67 @@
+//! Why an event is refused.
+
+use crate::code::numbers;
+use core::{error, fmt};
+
+numbers! {
+    /// Why an event is refused, in the order in which it is tested. Its text
+    /// says what to do; table and station are as they were.
+    Refusal {
+        /// The table is empty, over 64 records or not sound, or the station's
+        /// limit is not 1 to 15.
+        NotSound = 1,
+        /// The event's time is before that of the last done event.
+        TimeBefore = 2,
+        /// The event's kind or a field is wrong, or a fresh station's limit.
+        NotWellMade = 3,
+        /// The call is past the table's end, free, or of the other direction.
+        NoSuchCall = 4,
+        /// The call's state does not take the event.
+        NotInState = 5,
+        /// A result or error is not that of the call's open request.
+        OtherIdentifier = 6,
+        /// One more diversion would exceed the station's limit.
+        OverLimit = 7,
+        /// An open found no free record.
+        TableFull = 8,
+    }
+}
+
+impl Refusal {
+    const fn text(self) -> &'static str {
+        match self {
+            Refusal::NotSound => {
+                "table or station is not sound: lend 1 to 64 records as the engine left them, or start again with free ones and a fresh station"
+            }
+            Refusal::TimeBefore => {
+                "the time is before that of the last done event: hand events over in the order of their times"
+            }
+            Refusal::NotWellMade => {
+                "a field is outside its range or not used by this kind (a limit: 1 to 15): correct what makes the event"
+            }
+            Refusal::NoSuchCall => {
+                "no such call: past the table's end, free, or of the other direction; look up which record is meant"
+            }
+            Refusal::NotInState => {
+                "the call's state does not take this event: look at its record, and drop the event"
+            }
+            Refusal::OtherIdentifier => {
+                "not the identifier of the call's open request: drop this late or foreign answer"
+            }
+            Refusal::OverLimit => {
+                "one diversion more than the limit: do not divert; let the call ring or end it"
+            }
+            Refusal::TableFull => {
+                "no record is free: turn the call down, or lend a longer table (up to 64 records)"
+            }
+        }
+    }
+}
+
+impl fmt::Display for Refusal {
+    fn fmt(&self, f: &mut fmt::Formatter<'_>) -> fmt::Result {
+        write!(f, "{}: {}", self.number(), self.text())
+    }
+}
+
+impl error::Error for Refusal {}

@@ -1,0 +1,92 @@
+//! What a host keeps beside its table, and the step.
+
+use crate::raw::{self, lies};
+use crate::{Answer, Call, Event, Refusal};
+use core::fmt;
+
+/// A station: the time of its last done event, its next identifier and its
+/// diversion limit.
+#[derive(Clone, Copy)]
+#[repr(C)]
+pub struct Station {
+    last: u64,
+    next: u16,
+    limit: u8,
+    /// Not told by the library: whatever stands here.
+    padding: [u8; 5],
+}
+
+lies!(Station, 16, last 0 next 8 limit 10 padding 11);
+
+impl Station {
+    /// A fresh station that lets a call be diverted `limit` times, 1 to 15; any
+    /// other limit is [`Refusal::NotWellMade`].
+    pub fn fresh(limit: u8) -> Result<Station, Refusal> {
+        let made = raw::fresh(limit);
+        match Refusal::of(made.code) {
+            None => Ok(made.station),
+            Some(refusal) => Err(refusal),
+        }
+    }
+
+    /// A fresh station with the short form's limit.
+    pub fn short() -> Station {
+        raw::fresh_short()
+    }
+
+    /// A station that was kept elsewhere, as over a restart. A limit that is not
+    /// 1 to 15 is refused with the first event.
+    pub const fn kept(last: u64, next: u16, limit: u8) -> Station {
+        Station {
+            last,
+            next,
+            limit,
+            padding: [0; 5],
+        }
+    }
+
+    /// The time of the last done event, in ms.
+    pub const fn last(&self) -> u64 {
+        self.last
+    }
+
+    /// The identifier that the next request takes, unless an open one has it.
+    pub const fn next_identifier(&self) -> u16 {
+        self.next
+    }
+
+    /// How often a call may be diverted.
+    pub const fn limit(&self) -> u8 {
+        self.limit
+    }
+
+    /// One event on the lent table. A done event moves the station on and
+    /// changes at most one record; a refused one changes nothing. A table of no
+    /// or over 64 records is [`Refusal::NotSound`].
+    pub fn step(&mut self, table: &mut [Call], event: &Event) -> Result<Answer, Refusal> {
+        let told = raw::lent_step(table, *self, event.raw());
+        *self = told.station;
+        match Refusal::of(told.answer.code) {
+            None => Ok(Answer::read(&told.answer)),
+            Some(refusal) => Err(refusal),
+        }
+    }
+}
+
+impl PartialEq for Station {
+    fn eq(&self, other: &Station) -> bool {
+        (self.last, self.next, self.limit) == (other.last, other.next, other.limit)
+    }
+}
+
+impl Eq for Station {}
+
+impl fmt::Debug for Station {
+    fn fmt(&self, f: &mut fmt::Formatter<'_>) -> fmt::Result {
+        f.debug_struct("Station")
+            .field("last", &self.last)
+            .field("next", &self.next)
+            .field("limit", &self.limit)
+            .finish()
+    }
+}

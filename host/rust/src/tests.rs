@@ -1,0 +1,163 @@
+//! The wrapper's own tests; `host/compare` holds it to the model.
+
+use crate::*;
+use std::string::ToString;
+use std::vec::Vec;
+
+const NINE: &[u8] = include_bytes!("../../vectors/nine.bin");
+const HOSTILE: &[u8] = include_bytes!("../../vectors/hostile.bin");
+const MIXED: &[u8] = include_bytes!("../../vectors/mixed.bin");
+
+fn number(number: u16) -> Number {
+    Number::new(number).expect("not 0")
+}
+
+fn records(bytes: &[u8]) -> Vec<[u8; 24]> {
+    let (whole, _) = bytes.as_chunks();
+    whole.to_vec()
+}
+
+fn incoming(own: u16) -> Kind {
+    Kind::OpenIncoming { own: number(own) }
+}
+
+fn divert(call: u8) -> Kind {
+    Kind::Divert {
+        call,
+        reason: Reason::Cfb,
+        option: Choice::WithNumber,
+        destination: number(300),
+    }
+}
+
+#[test]
+fn limits() {
+    for limit in 0..=255 {
+        match Station::fresh(limit) {
+            Ok(station) => assert_eq!(station, Station::kept(0, 65535, limit)),
+            Err(refusal) => assert_eq!(refusal, Refusal::NotWellMade),
+        }
+        assert_eq!(Station::fresh(limit).is_ok(), (1..=15).contains(&limit));
+    }
+    assert_eq!(Ok(Station::short()), Station::fresh(15));
+}
+
+#[test]
+fn every_record_reads_back_as_its_bytes() {
+    let (mut known, mut raw) = (0, 0);
+    for bytes in [NINE, HOSTILE, MIXED].into_iter().flat_map(records) {
+        let event = Event::from_bytes(&bytes);
+        assert_eq!(event.to_bytes(), bytes);
+        match event.kind {
+            Kind::Raw(_) => {
+                assert!(!event.is_well_made(), "{event:?}");
+                raw += 1;
+            }
+            _ => known += 1,
+        }
+    }
+    assert!(known > 500 && raw > 100, "{known} {raw}");
+}
+
+#[test]
+fn every_refusal_and_its_text() {
+    let mut table = [Call::FREE; 1];
+    let mut station = Station::fresh(1).expect("a limit");
+    let mut refused = |time, kind| {
+        let (before, stood) = (table, station);
+        let told = station.step(&mut table, &Event::at(time, kind));
+        if told.is_err() {
+            assert_eq!((table, station), (before, stood));
+        }
+        told.err().map(Refusal::number)
+    };
+    assert_eq!(refused(5, incoming(102)), None);
+    assert_eq!(refused(4, Kind::Clock), Some(2));
+    assert_eq!(refused(5, Kind::Raw([99; 16])), Some(3));
+    assert_eq!(refused(5, Kind::Alerted { call: 1 }), Some(4));
+    assert_eq!(refused(5, Kind::LegFailed { call: 0 }), Some(5));
+    assert_eq!(refused(5, divert(0)), None);
+    let foreign = Kind::Result {
+        call: 0,
+        identifier: 7,
+    };
+    assert_eq!(refused(6, foreign), Some(6));
+    assert_eq!(refused(6, incoming(103)), Some(8));
+    assert_eq!(refused(7, Kind::FarEnd { call: 0 }), None);
+    let diverted = Kind::OpenDiverted {
+        own: number(102),
+        reason: Reason::Cfu,
+        counter: 1,
+        diverting: None,
+        original: None,
+    };
+    assert_eq!(refused(7, diverted), None);
+    assert_eq!(refused(7, divert(0)), Some(7));
+    let clock = Event::at(9, Kind::Clock);
+    assert_eq!(station.step(&mut [], &clock), Err(Refusal::NotSound));
+    for number in 1..=8 {
+        let refusal = Refusal::of(number).expect("eight refusals");
+        let said: &dyn core::error::Error = &refusal;
+        assert!(said.to_string().starts_with(&std::format!("{number}: ")));
+    }
+}
+
+#[test]
+fn no_length_but_1_to_64() {
+    let open = Event::at(1, incoming(102));
+    for length in 0..=70 {
+        let mut table = std::vec![Call::FREE; length];
+        let mut station = Station::short();
+        let done = station.step(&mut table, &open).is_ok();
+        assert_eq!(done, (1..=64).contains(&length), "{length} records");
+        let used = table.iter().filter(|call| !call.is_free()).count();
+        assert_eq!(used, usize::from(done));
+    }
+}
+
+#[test]
+fn readers_say_what_a_panel_shows() {
+    let mut table = [Call::FREE; 2];
+    let mut station = Station::short();
+    let mut step = |table: &mut [Call], time, kind| {
+        let told = station.step(table, &Event::at(time, kind));
+        told.expect("a done event")
+    };
+    step(&mut table, 1, incoming(102));
+    let asked = step(&mut table, 2, divert(0));
+    let Some(Message::Invoke {
+        destination, last, ..
+    }) = asked.sent[0]
+    else {
+        panic!("{asked:?}");
+    };
+    assert_eq!((destination, last), (number(300), number(102)));
+    let call = table[0];
+    assert_eq!(call.direction(), Some(Direction::Incoming));
+    assert_eq!(call.basic(), Some(Basic::Proceeding));
+    assert_eq!((call.own(), call.counter()), (Some(number(102)), None));
+    let request = call.request().expect("an open request");
+    assert_eq!((request.identifier, request.start), (65535, 2));
+    assert_eq!((request.reason, call.granted()), (Reason::Cfb, None));
+    let identifier = request.identifier;
+    step(
+        &mut table,
+        3,
+        Kind::Result {
+            call: 0,
+            identifier,
+        },
+    );
+    assert_eq!(table[0].granted(), Some(Reason::Cfb));
+    assert_eq!(table[1], Call::FREE);
+}
+
+#[test]
+fn padding_is_no_part_of_a_record() {
+    let mut bytes = Call::FREE.to_bytes();
+    bytes[30] = 7;
+    let padded = Call::from_bytes(bytes);
+    assert_eq!((padded, padded.to_bytes()), (Call::FREE, bytes));
+    bytes[39] = 7;
+    assert_ne!(Call::from_bytes(bytes), Call::FREE);
+}
