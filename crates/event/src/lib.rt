@@ -206,18 +206,21 @@ fn message_fields(e: Event) -> bool
         & (!(e.message == 4) | (e.flag == 0))
 }
 
-// The kind is one of the table, and each field is as its row says. By kind, so that an event's own row alone is looked at.
+// The kind is one of the table, and each field is as its row says. Only the row of the event's kind is looked at; neighbours
+// have an arm each, since `1 | 2` would be compiled as a range, tested after all others.
 pub fn well_made(e: Event) -> bool
     ensures { λ r. ⌜ r ≡ wellMade e ⌝ }
 {
     let kind = e.kind;
     match kind {
-        1 | 2 => open_fields(e),
+        1 => open_fields(e),
+        2 => open_fields(e),
         3 => open_diverted_fields(e),
         4 | 9 | 11 | 15 => call_only(e),
         5 => answer_fields(e),
         6 => divert_fields(e),
-        7 | 8 => outcome_fields(e),
+        7 => outcome_fields(e),
+        8 => outcome_fields(e),
         10 => clock_fields(e),
         12 => rerouting_fields(e),
         13 => dli1_fields(e),
