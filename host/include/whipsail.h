@@ -42,7 +42,17 @@ extern "C" {
 /* Bytes of one event record in a file. */
 #define WHIPSAIL_EVENT_BYTES 24
 
-/* Kinds of events and the fields that each uses beside the time. */
+/* Kinds of events and the fields that each uses beside the time.
+ *
+ * DIVERT: CFU and CFB before ALERTED, CFNR after it, and no request open or
+ * granted. A request that nobody answers for 10,000 ms ends at the next CLOCK,
+ * one for each; the call then stands as before: let it ring, or divert again.
+ * RESULT sends nothing: the record stays, granted, until FAR_END (the far end's
+ * RELEASE COMPLETE) or END, and with CFNR until ANSWERED or LEG_FAILED; a host
+ * that may wait for these in vain keeps a timer. ALERTED and ANSWERED are refused
+ * while CFU or CFB is open or granted. END and FAR_END free an incoming record, END
+ * and RECEIVED with RELEASE on leg 1, where there is no leg 2, an outgoing one; its
+ * place is used again. */
 enum {
     WHIPSAIL_OPEN_OUTGOING = 1, /* first: party */
     WHIPSAIL_OPEN_INCOMING = 2, /* first: own number */
@@ -63,17 +73,18 @@ enum {
     WHIPSAIL_FAR_END = 15       /* call: the far end ends an incoming one */
 };
 
-/* Why an event is refused. */
+/* Why an event is refused, and what to do. */
 enum {
     WHIPSAIL_DONE = 0,
-    WHIPSAIL_NOT_SOUND = 1,        /* the table is empty, too long or not sound, or the limit not 1 to 15 */
-    WHIPSAIL_TIME_BEFORE = 2,      /* its time is before that of the last done event */
-    WHIPSAIL_NOT_WELL_MADE = 3,    /* its kind or a field; of whipsail_fresh: the limit */
-    WHIPSAIL_NO_SUCH_CALL = 4,     /* past the table's end, free, or of the other direction */
-    WHIPSAIL_NOT_IN_STATE = 5,     /* the call's state does not take it */
-    WHIPSAIL_OTHER_IDENTIFIER = 6, /* a result or error, not of the call's open request */
-    WHIPSAIL_OVER_LIMIT = 7,       /* one diversion more than the limit */
-    WHIPSAIL_TABLE_FULL = 8        /* an open, and no record is free */
+    WHIPSAIL_NOT_SOUND = 1,        /* the table is empty, too long or not sound, or the limit not 1 to 15: lend the
+                                      records as they were left, or start again with zeroed ones and a fresh station */
+    WHIPSAIL_TIME_BEFORE = 2,      /* its time is before that of the last done event: keep to the order of times */
+    WHIPSAIL_NOT_WELL_MADE = 3,    /* its kind or a field (of whipsail_fresh: the limit): correct what makes it */
+    WHIPSAIL_NO_SUCH_CALL = 4,     /* past the table's end, free, or of the other direction: look up the record */
+    WHIPSAIL_NOT_IN_STATE = 5,     /* the call's state does not take it, as a result with no request open: drop it */
+    WHIPSAIL_OTHER_IDENTIFIER = 6, /* a result or error, and the open request has another identifier: drop it */
+    WHIPSAIL_OVER_LIMIT = 7,       /* one diversion more than the limit: let the call ring, or end it */
+    WHIPSAIL_TABLE_FULL = 8        /* an open, and no record is free: turn the call down */
 };
 
 /* Reasons, options, messages that are received, and their flags. */
@@ -189,6 +200,24 @@ typedef struct whipsail_made {
     whipsail_station station;
 } whipsail_made;
 
+/* A station of this limit: last time 0, next identifier 65535. */
+whipsail_made whipsail_fresh(uint8_t limit);
+
+/* The same with limit 15. */
+whipsail_station whipsail_fresh_short(void);
+
+/* One event on the `len` records at `table`, 1 to 64. `table` is not null, also
+ * where `len` is 0, is aligned to 8, and is touched by nobody else during the
+ * call. A done event changes at most one record; a refused one none. The table
+ * is tested every time. */
+whipsail_told whipsail_lent_step(whipsail_call *table, size_t len, whipsail_input input);
+
+/* Whether kind and fields are as the table of kinds says: if not, a step
+ * refuses the event with 3. */
+bool whipsail_well_made(whipsail_event event);
+
+/* ---- For files of events, and for tables by value. A panel needs none of this. */
+
 /* `whole` is 1, or 0 where fewer than 24 bytes are left: then the event is all
  * 0, which is refused with 3. */
 typedef struct whipsail_read {
@@ -219,17 +248,6 @@ typedef struct whipsail_ran {
     whipsail_board board;
 } whipsail_ran;
 
-/* A station of this limit: last time 0, next identifier 65535. */
-whipsail_made whipsail_fresh(uint8_t limit);
-
-/* The same with limit 15. */
-whipsail_station whipsail_fresh_short(void);
-
-/* One event on the `len` records at `table`, 1 to 64. `table` is not null, also
- * where `len` is 0. A done event changes at most one record; a refused one none.
- * The table is tested every time. */
-whipsail_told whipsail_lent_step(whipsail_call *table, size_t len, whipsail_input input);
-
 /* The same on a board by value. */
 whipsail_stepped whipsail_step(whipsail_board board, whipsail_event event);
 
@@ -241,10 +259,6 @@ whipsail_ran whipsail_run(whipsail_board board, const uint8_t *bytes, size_t len
 /* The event whose 24 bytes, big-endian in the order of whipsail_event, start at
  * `place` among `len` bytes. `bytes` is not null, also where `len` is 0. */
 whipsail_read whipsail_event_at(const uint8_t *bytes, size_t len, size_t place);
-
-/* Whether kind and fields are as the table of kinds says: if not, a step
- * refuses the event with 3. */
-bool whipsail_well_made(whipsail_event event);
 
 #ifdef __cplusplus
 }

@@ -54,9 +54,10 @@
 #define WHIPSAIL_HOLDS(fact, name) static_assert(fact, name);
 #elif defined(__STDC_VERSION__) && __STDC_VERSION__ >= 201112L
 #define WHIPSAIL_HOLDS(fact, name) _Static_assert(fact, name);
+#else
+#error "whipsail.h needs C11 or C++11: the layout of its structs is asserted"
 #endif
 
-#ifdef WHIPSAIL_HOLDS
 #define WHIPSAIL_SIZE(type, bytes) WHIPSAIL_HOLDS(sizeof(whipsail_##type) == bytes, "size of " #type)
 #define WHIPSAIL_AT(type, field, at) WHIPSAIL_HOLDS(offsetof(whipsail_##type, field) == at, #type "." #field)
 WHIPSAIL_LAYOUT(WHIPSAIL_SIZE, WHIPSAIL_AT)
@@ -64,6 +65,5 @@ WHIPSAIL_HOLDS(sizeof(size_t) == 8, "a machine of 64 bits")
 #undef WHIPSAIL_SIZE
 #undef WHIPSAIL_AT
 #undef WHIPSAIL_HOLDS
-#endif
 
 #endif
