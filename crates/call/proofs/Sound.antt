@@ -143,15 +143,3 @@ requested-incoming last c h r = go (sound-view last c h)
     go (free e) = absurd (rw e at r)
     go (outgoing w) = absurd (T-not (requested c) (unasked c (w .unused)) r)
     go (incoming w) = w
-
-pub other-unasked : (last : ℕ) (c : Call) → T (soundCall last c) → T (not (isIncoming c)) → T (not (requested c))
-other-unasked last c h n = not-T (requested c) (λ r. T-not (isIncoming c) n (requested-incoming last c h r .direction))
-
--- "no T1 start is after the last time"
-pub start-past : (last : ℕ) (c : Call) → T (soundCall last c) → c .start ≤ last
-start-past last c h = go (sound-view last c h)
-  where
-    go : Sound last c → c .start ≤ last
-    go (free e) = rw e (omega arith)
-    go (outgoing w) = let z : c .start ≡ 0 = search parts depth 12 in omega arith
-    go (incoming w) = leb→le (c .start) last (w .start)

@@ -12,7 +12,7 @@ use Rattle.call.specs.Record.{requested, wait, undiverted, noDli1, freeC
 use Rattle.call.specs.Fields.{basic-is, cds-is, cdf-is, granted-is, identifier-is, reason-is, start-is}
 use Rattle.call.specs.Messages.{noCounter, alertingOn, connectOn, connectWithDli3, one, nothing, sending, silent}
 
--- "2 open incoming", "3 open incoming with DLI2": "An open starts in Proceeding, services Idle, kind 3 in CDF Wait (its
+-- "2 open incoming", "3 open incoming with divertingLegInformation2 (DLI2)": "An open starts in Proceeding, services Idle, kind 3 in CDF Wait (its
 -- reason isn't kept), and sends nothing"
 abbrev pub openedIncoming : Event → Call
 openedIncoming e = record {

@@ -10,11 +10,11 @@ use Rattle.notice.specs.Notice.{seen}
 use Rattle.call.specs.declared.Call.{Call}
 use Rattle.call.specs.Record.{isFree, isOutgoing, isIncoming, active, delivered, divert, invoked, requested, wait, granted, undiverted, cdfNone, fits}
 
--- "a exactly when b"
+-- a exactly when b
 abbrev pub exactly : Bool → Bool → Bool
 exactly a b = (a && b) || (not a && not b)
 
--- "a only with b"
+-- a only with b
 abbrev pub only : Bool → Bool → Bool
 only a b = not a || b
 

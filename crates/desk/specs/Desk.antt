@@ -48,7 +48,7 @@ firstFreeIn (suc more) held candidate =
     let later = firstFreeIn more held (after candidate) in
     when any (eqb (candidate + 1)) held then later else candidate
 
--- the places past the lent length
+-- 64 free records: what counts past the lent length
 abbrev pub frees : List Call
 frees = replicate 64 freeCall
 

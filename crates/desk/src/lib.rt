@@ -112,7 +112,7 @@ fn soonest(dues: &[u64; 64]) -> u64
     m
 }
 
-// A bound below every time of the column, found anew where it has passed.
+// A bound that is at most each time of the column, found anew where it has passed.
 pub fn refresh(soon: u64, dues: &[u64; 64], time: u64) -> u64
     requires { ⌜ length (now dues) ≡ 64 ⌝ }
     ensures { λ r. ⌜ r ≡ refreshedOf soon (now (dues .entry)) time ⌝ }

@@ -2,9 +2,8 @@
 //
 // The groups of standard input are those of the file events.txt beside src/: for each a record of kind 255 with its label, and
 // then its events as host/model's `events encode` writes them (`events decode` reads them back). Their lines in the file stdout are
-// those that host/model's `modelrun` prints for the events of each group alone. The groups of `records` and `tables` were built
-// once more over that model's own records and stations, and their lines are those of its `step`. All were read against the
-// page's sentences and the readings.
+// those that host/model's `modelrun` prints for the events of each group alone; those of `records` and `tables` are the lines of
+// that model's `step` on the same records and stations.
 mod events;
 mod groups;
 mod records;

@@ -24,9 +24,6 @@ use Rattle.decide.specs.Decided.{outcomeOf}
 use Rattle.decide.proofs.Tested.{bounds, short, soundRecords, sound-parts}
 use Rattle.engine.specs.Board.{lent, putBack, soundBoard, appliedTo}
 
-pub lent-length : (b : Board) → b .len ≤ 64 → length (b .calls) ≡ 64 → length (lent b) ≡ b .len
-lent-length b h e = omega (arith, length-take (b .len) (b .calls))
-
 -- the test behind number 1, in the order of the code
 pub board-tested : (b : Board) (t r : Bool) → length (b .calls) ≡ 64 → t ≡ bounds (b .len) (b .station .limit) → t ≡ true
     → r ≡ soundRecords (b .station .last) (lent b) → r ≡ soundBoard b

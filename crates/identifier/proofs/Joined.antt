@@ -64,25 +64,3 @@ distinct-exchanged a m n b d e f =
     distinct-joined a (n ++ b) (distinct-left a (m ++ b) d)
     (distinct-joined n b e (distinct-right m b (distinct-right a (m ++ b) d)) (λ x t u. f x t (taken-right a b x u)))
     (λ x t u. taken-either n b x (λ v. f x v (taken-left a b x t)) (λ v. parts-apart a (m ++ b) d x t (taken-right m b x v)) u)
-
-one-distinct : (x : ℕ) → T (distinct (x ∷ []))
-unfolding any distinct
-one-distinct x = tt
-
-one-apart : (a b : List ℕ) (x : ℕ) → (T (taken (a ++ b) x) → ⊥) → (y : ℕ) → T (taken (x ∷ []) y) → T (taken (a ++ b) y) → ⊥
-unfolding any
-one-apart a b x n y t u = or-either (eqb y x) false (λ e. n (rw (← eqb→eq y x e) u)) (λ f. f) t
-
--- one is dropped, put in, or replaced by another
-pub distinct-dropped : (a b : List ℕ) (y : ℕ) → T (distinct (a ++ (y ∷ b))) → T (distinct (a ++ b))
-unfolding any distinct
-distinct-dropped a b y d = distinct-exchanged a (y ∷ []) [] b d tt (λ x t u. t)
-
-pub distinct-put : (a b : List ℕ) (x : ℕ) → T (distinct (a ++ b)) → (T (taken (a ++ b) x) → ⊥) → T (distinct (a ++ (x ∷ b)))
-distinct-put a b x d n = distinct-exchanged a [] (x ∷ []) b d (one-distinct x) (one-apart a b x n)
-
-pub distinct-replaced : (a b : List ℕ) (y x : ℕ) → T (distinct (a ++ (y ∷ b))) → (T (taken (a ++ b) x) → ⊥) → T (distinct (a ++ (x ∷ b)))
-distinct-replaced a b y x d n = distinct-exchanged a (y ∷ []) (x ∷ []) b d (one-distinct x) (one-apart a b x n)
-
-pub taken-dropped : (a b : List ℕ) (y x : ℕ) → T (taken (a ++ b) x) → T (taken (a ++ (y ∷ b)) x)
-taken-dropped a b y x t = taken-either a b x (taken-left a (y ∷ b) x) (λ u. taken-right a (y ∷ b) x (taken-right (y ∷ []) b x u)) t

@@ -17,7 +17,7 @@ fn cdf_at_open(e: Event) -> u8
     if e.kind == 3 { 1 } else { 0 }
 }
 
-// "2 open incoming", "3 open incoming with DLI2"
+// "2 open incoming", "3 open incoming with divertingLegInformation2 (DLI2)"
 pub fn opened_incoming(e: Event) -> Call
     ensures { λ r. ⌜ r ≡ openedIncoming e ⌝ }
 {

@@ -1,4 +1,4 @@
--- What the clauses of `src/` cite. Assumes nothing.
+-- A slice that a host lends, by its list: what of it is loaded, and what is written back.
 use Prim.Native.Nat.{ℕ, zero, suc, _+_}
 use mathlib.Core.List.{List, _++_}
 use lib.ListN.{set, take, drop, replicate}

@@ -5,3 +5,4 @@ pub mod Begun
 pub mod InPlace
 pub mod Records
 pub mod Pieces
+pub mod Determined

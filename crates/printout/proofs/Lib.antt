@@ -3,3 +3,4 @@ pub mod Digits
 pub mod Pieces
 pub mod Panel
 pub mod Cases
+pub mod Determined

@@ -1,4 +1,4 @@
-// What a host links: the engine under plain names, by the C calling convention. Every board and event may be handed in.
+// What a host links: the engine under plain names, by the C calling convention. Every board, slice and event may be handed in.
 ghost use mathlib.Core.Path.{_≡_};
 ghost use Prim.Native.Nat.{ℕ};
 ghost use Rattle.event.specs.WellMade.{wellMade};
