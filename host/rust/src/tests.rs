@@ -99,6 +99,7 @@ fn every_refusal_and_its_text() {
         let refusal = Refusal::of(number).expect("eight refusals");
         let said: &dyn core::error::Error = &refusal;
         assert!(said.to_string().starts_with(&std::format!("{number}: ")));
+        assert_eq!(std::format!("{refusal:?}"), said.to_string());
     }
 }
 
