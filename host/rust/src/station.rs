@@ -45,6 +45,28 @@ impl Station {
         }
     }
 
+    /// The 16 bytes as they lie in this machine's memory, to keep them elsewhere.
+    /// Bytes 11 to 15 are padding, here 0.
+    pub fn to_bytes(&self) -> [u8; 16] {
+        let mut bytes = [0; 16];
+        bytes[..8].copy_from_slice(&self.last.to_ne_bytes());
+        bytes[8..10].copy_from_slice(&self.next.to_ne_bytes());
+        bytes[10] = self.limit;
+        bytes
+    }
+
+    /// The station of bytes that were kept; any will do, as for [`Station::kept`].
+    pub fn from_bytes(bytes: [u8; 16]) -> Station {
+        let (mut last, mut next) = ([0; 8], [0; 2]);
+        last.copy_from_slice(&bytes[..8]);
+        next.copy_from_slice(&bytes[8..10]);
+        Station::kept(
+            u64::from_ne_bytes(last),
+            u16::from_ne_bytes(next),
+            bytes[10],
+        )
+    }
+
     /// The time of the last done event, in ms.
     pub const fn last(&self) -> u64 {
         self.last

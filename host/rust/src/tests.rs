@@ -154,6 +154,23 @@ fn readers_say_what_a_panel_shows() {
 }
 
 #[test]
+fn a_station_is_kept_as_its_bytes() {
+    let mut station = Station::short();
+    let mut table = [Call::FREE; 1];
+    for (time, kind) in [(0x0102_0304_0506, incoming(102)), (1 << 63, divert(0))] {
+        let told = station.step(&mut table, &Event::at(time, kind));
+        assert!(told.is_ok(), "{told:?}");
+    }
+    let mut bytes = station.to_bytes();
+    assert_eq!(bytes[10..], [15, 0, 0, 0, 0, 0]);
+    assert_eq!(bytes[..8], (1_u64 << 63).to_ne_bytes());
+    assert_eq!(bytes[8..10], 0_u16.to_ne_bytes());
+    bytes[15] = 7;
+    assert_eq!(Station::from_bytes(bytes), station);
+    assert_eq!(Station::from_bytes(bytes).to_bytes(), station.to_bytes());
+}
+
+#[test]
 fn padding_is_no_part_of_a_record() {
     let mut bytes = Call::FREE.to_bytes();
     bytes[30] = 7;
