@@ -3,6 +3,7 @@
 use crate::raw::{self, lies};
 use crate::{Answer, Call, Event, Refusal};
 use core::fmt;
+use core::mem::MaybeUninit;
 
 /// A station: the time of its last done event, its next identifier and its
 /// diversion limit.
@@ -12,8 +13,8 @@ pub struct Station {
     last: u64,
     next: u16,
     limit: u8,
-    /// Not told by the library: whatever stands here.
-    padding: [u8; 5],
+    /// Not told by the library, which may leave it unwritten.
+    padding: [MaybeUninit<u8>; 5],
 }
 
 lies!(Station, 16, last 0 next 8 limit 10 padding 11);
@@ -41,7 +42,7 @@ impl Station {
             last,
             next,
             limit,
-            padding: [0; 5],
+            padding: [MaybeUninit::new(0); 5],
         }
     }
 
