@@ -133,6 +133,7 @@ fn readers_say_what_a_panel_shows() {
         panic!("{asked:?}");
     };
     assert_eq!((destination, last), (number(300), number(102)));
+    assert!(asked.messages().eq(asked.sent[0]));
     let call = table[0];
     assert_eq!(call.direction(), Some(Direction::Incoming));
     assert_eq!(call.basic(), Some(Basic::Proceeding));
