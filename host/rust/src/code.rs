@@ -1,4 +1,4 @@
-//! The page's small numbers by name.
+//! Document 01's small numbers by name.
 
 /// An enum that stands for numbers, read back by `of`.
 macro_rules! numbers {

@@ -30,7 +30,7 @@ impl Station {
         }
     }
 
-    /// A fresh station with the short form's limit.
+    /// A fresh station of the short form: limit 15.
     pub fn short() -> Station {
         raw::fresh_short()
     }

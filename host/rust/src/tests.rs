@@ -60,6 +60,24 @@ fn every_record_reads_back_as_its_bytes() {
 }
 
 #[test]
+fn every_done_event_but_the_clock_names_a_call() {
+    let (mut table, mut station) = ([Call::FREE; 64], Station::short());
+    let (mut named, mut idle) = (0, 0);
+    for bytes in records(MIXED) {
+        let event = Event::from_bytes(&bytes);
+        match station.step(&mut table, &event).map(|answer| answer.call) {
+            Ok(None) => {
+                assert_eq!(event.kind, Kind::Clock);
+                idle += 1;
+            }
+            Ok(Some(_)) => named += 1,
+            Err(_) => {}
+        }
+    }
+    assert!(named > 100 && idle > 0, "{named} {idle}");
+}
+
+#[test]
 fn every_refusal_and_its_text() {
     let mut table = [Call::FREE; 1];
     let mut station = Station::fresh(1).expect("a limit");
