@@ -13,8 +13,8 @@ fn number(number: u16) -> Number {
 }
 
 fn records(bytes: &[u8]) -> Vec<[u8; 24]> {
-    let (whole, _) = bytes.as_chunks();
-    whole.to_vec()
+    let whole = bytes.chunks_exact(24);
+    whole.map(|one| one.try_into().expect("24 bytes")).collect()
 }
 
 fn incoming(own: u16) -> Kind {
