@@ -5,14 +5,17 @@ use std::path::PathBuf;
 
 fn main() {
     println!("cargo:rerun-if-env-changed=WHIPSAIL_LIB");
-    let archive = match env::var_os("WHIPSAIL_LIB") {
-        Some(named) => PathBuf::from(named),
-        None => made_here(),
-    };
+    let named = env::var_os("WHIPSAIL_LIB").map(PathBuf::from);
+    let is_named = named.is_some();
+    let archive = named.unwrap_or_else(made_here);
     println!("cargo:rerun-if-changed={}", archive.display());
     let file = archive.file_name().and_then(|name| name.to_str());
     let (Some(folder), Some(file), true) = (archive.parent(), file, archive.is_file()) else {
-        panic!("no archive {}: run host/lib first", archive.display());
+        let shown = archive.display();
+        match is_named {
+            true => panic!("WHIPSAIL_LIB is {shown}: no such file (give an absolute path)"),
+            false => panic!("no archive {shown}: run host/lib first"),
+        }
     };
     println!("cargo:rustc-link-search=native={}", folder.display());
     println!("cargo:rustc-link-lib=static:+verbatim={file}");

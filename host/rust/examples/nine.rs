@@ -1,5 +1,6 @@
 //! A host in a page: owns a table of call records and a station, lends them to
-//! the engine for each of the page's nine events, and prints the panel's lines.
+//! the engine for each of document 01's nine events, and prints the panel's lines.
+//! The last event is refused; stderr says why.
 #![forbid(unsafe_code)]
 
 use whipsail::{Answer, Call, Choice, Dli3, Event, Kind, Leg, Number, Reason, Received};

@@ -5,8 +5,9 @@ use crate::{raw, Choice, Leg, Number, Reason};
 /// The answer to a done event.
 #[derive(Clone, Copy, Debug, PartialEq, Eq)]
 pub struct Answer {
-    /// The record that the event was about; none at a clock event with nothing
-    /// due.
+    /// The place of the record that the event was about; of an open, the one it
+    /// took. It is `Some` in every done answer but that of a clock event with
+    /// nothing due.
     pub call: Option<u8>,
     /// The messages to send, in this order; `None` past the last one.
     pub sent: [Option<Message>; 3],
@@ -69,8 +70,8 @@ pub enum Message {
 
 impl Answer {
     /// The messages to send, in order.
-    pub fn messages(&self) -> impl Iterator<Item = &Message> {
-        self.sent.iter().flatten()
+    pub fn messages(&self) -> impl Iterator<Item = Message> {
+        self.sent.into_iter().flatten()
     }
 
     pub(crate) fn read(a: &raw::Answer) -> Answer {

@@ -1,10 +1,10 @@
-//! The page's small numbers by name.
+//! Document 01's small numbers by name.
 
 /// An enum that stands for numbers, read back by `of`.
 macro_rules! numbers {
     ($(#[$said:meta])* $name:ident { $($(#[$each:meta])* $case:ident = $number:literal,)* }) => {
         $(#[$said])*
-        #[derive(Clone, Copy, Debug, PartialEq, Eq, PartialOrd, Ord, Hash)]
+        #[derive(Clone, Copy, PartialEq, Eq, PartialOrd, Ord, Hash)]
         pub enum $name {
             $($(#[$each])* $case = $number,)*
         }
@@ -29,6 +29,7 @@ pub(crate) use numbers;
 
 numbers! {
     /// Why a call is diverted.
+    #[derive(Debug)]
     Reason {
         /// Not told.
         Unknown = 0,
@@ -44,6 +45,7 @@ numbers! {
 numbers! {
     /// The option of a diversion: what the caller may be told of it. A smaller
     /// one is stricter.
+    #[derive(Debug)]
     Choice {
         /// Nothing.
         NoNotification = 0,
@@ -56,6 +58,7 @@ numbers! {
 
 numbers! {
     /// A leg of a call; those of incoming calls are the first.
+    #[derive(Debug)]
     Leg {
         /// To the party that was called.
         One = 1,
@@ -66,6 +69,7 @@ numbers! {
 
 numbers! {
     /// Who made a call.
+    #[derive(Debug)]
     Direction {
         /// The station.
         Outgoing = 1,
@@ -76,6 +80,7 @@ numbers! {
 
 numbers! {
     /// The basic state of a call.
+    #[derive(Debug)]
     Basic {
         /// Set up, and not yet ringing.
         Proceeding = 1,

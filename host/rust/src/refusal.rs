@@ -64,4 +64,11 @@ impl fmt::Display for Refusal {
     }
 }
 
+/// The text too, as `?` in a `main` shows what `Debug` prints.
+impl fmt::Debug for Refusal {
+    fn fmt(&self, f: &mut fmt::Formatter<'_>) -> fmt::Result {
+        fmt::Display::fmt(self, f)
+    }
+}
+
 impl error::Error for Refusal {}

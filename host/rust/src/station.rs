@@ -3,6 +3,7 @@
 use crate::raw::{self, lies};
 use crate::{Answer, Call, Event, Refusal};
 use core::fmt;
+use core::mem::MaybeUninit;
 
 /// A station: the time of its last done event, its next identifier and its
 /// diversion limit.
@@ -12,8 +13,8 @@ pub struct Station {
     last: u64,
     next: u16,
     limit: u8,
-    /// Not told by the library: whatever stands here.
-    padding: [u8; 5],
+    /// Not told by the library, which may leave it unwritten.
+    padding: [MaybeUninit<u8>; 5],
 }
 
 lies!(Station, 16, last 0 next 8 limit 10 padding 11);
@@ -29,7 +30,7 @@ impl Station {
         }
     }
 
-    /// A fresh station with the short form's limit.
+    /// A fresh station of the short form: limit 15.
     pub fn short() -> Station {
         raw::fresh_short()
     }
@@ -41,8 +42,30 @@ impl Station {
             last,
             next,
             limit,
-            padding: [0; 5],
+            padding: [MaybeUninit::new(0); 5],
         }
+    }
+
+    /// The 16 bytes as they lie in this machine's memory, to keep them elsewhere.
+    /// Bytes 11 to 15 are padding, here 0.
+    pub fn to_bytes(&self) -> [u8; 16] {
+        let mut bytes = [0; 16];
+        bytes[..8].copy_from_slice(&self.last.to_ne_bytes());
+        bytes[8..10].copy_from_slice(&self.next.to_ne_bytes());
+        bytes[10] = self.limit;
+        bytes
+    }
+
+    /// The station of bytes that were kept; any will do, as for [`Station::kept`].
+    pub fn from_bytes(bytes: [u8; 16]) -> Station {
+        let (mut last, mut next) = ([0; 8], [0; 2]);
+        last.copy_from_slice(&bytes[..8]);
+        next.copy_from_slice(&bytes[8..10]);
+        Station::kept(
+            u64::from_ne_bytes(last),
+            u16::from_ne_bytes(next),
+            bytes[10],
+        )
     }
 
     /// The time of the last done event, in ms.

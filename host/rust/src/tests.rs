@@ -13,8 +13,8 @@ fn number(number: u16) -> Number {
 }
 
 fn records(bytes: &[u8]) -> Vec<[u8; 24]> {
-    let (whole, _) = bytes.as_chunks();
-    whole.to_vec()
+    let whole = bytes.chunks_exact(24);
+    whole.map(|one| one.try_into().expect("24 bytes")).collect()
 }
 
 fn incoming(own: u16) -> Kind {
@@ -60,6 +60,24 @@ fn every_record_reads_back_as_its_bytes() {
 }
 
 #[test]
+fn every_done_event_but_the_clock_names_a_call() {
+    let (mut table, mut station) = ([Call::FREE; 64], Station::short());
+    let (mut named, mut idle) = (0, 0);
+    for bytes in records(MIXED) {
+        let event = Event::from_bytes(&bytes);
+        match station.step(&mut table, &event).map(|answer| answer.call) {
+            Ok(None) => {
+                assert_eq!(event.kind, Kind::Clock);
+                idle += 1;
+            }
+            Ok(Some(_)) => named += 1,
+            Err(_) => {}
+        }
+    }
+    assert!(named > 100 && idle > 0, "{named} {idle}");
+}
+
+#[test]
 fn every_refusal_and_its_text() {
     let mut table = [Call::FREE; 1];
     let mut station = Station::fresh(1).expect("a limit");
@@ -99,6 +117,7 @@ fn every_refusal_and_its_text() {
         let refusal = Refusal::of(number).expect("eight refusals");
         let said: &dyn core::error::Error = &refusal;
         assert!(said.to_string().starts_with(&std::format!("{number}: ")));
+        assert_eq!(std::format!("{refusal:?}"), said.to_string());
     }
 }
 
@@ -132,6 +151,7 @@ fn readers_say_what_a_panel_shows() {
         panic!("{asked:?}");
     };
     assert_eq!((destination, last), (number(300), number(102)));
+    assert!(asked.messages().eq(asked.sent[0]));
     let call = table[0];
     assert_eq!(call.direction(), Some(Direction::Incoming));
     assert_eq!(call.basic(), Some(Basic::Proceeding));
@@ -150,6 +170,23 @@ fn readers_say_what_a_panel_shows() {
     );
     assert_eq!(table[0].granted(), Some(Reason::Cfb));
     assert_eq!(table[1], Call::FREE);
+}
+
+#[test]
+fn a_station_is_kept_as_its_bytes() {
+    let mut station = Station::short();
+    let mut table = [Call::FREE; 1];
+    for (time, kind) in [(0x0102_0304_0506, incoming(102)), (1 << 63, divert(0))] {
+        let told = station.step(&mut table, &Event::at(time, kind));
+        assert!(told.is_ok(), "{told:?}");
+    }
+    let mut bytes = station.to_bytes();
+    assert_eq!(bytes[10..], [15, 0, 0, 0, 0, 0]);
+    assert_eq!(bytes[..8], (1_u64 << 63).to_ne_bytes());
+    assert_eq!(bytes[8..10], 0_u16.to_ne_bytes());
+    bytes[15] = 7;
+    assert_eq!(Station::from_bytes(bytes), station);
+    assert_eq!(Station::from_bytes(bytes).to_bytes(), station.to_bytes());
 }
 
 #[test]
