@@ -117,7 +117,7 @@ impl Message {
         }
     }
 
-    /// None of letter 0. The engine is proved to send these letters alone, and
+    /// None of letter 0. By the definitions the engine sends these letters alone, and
     /// no leg, reason, option or number that is not one.
     fn read(m: &raw::Message) -> Option<Message> {
         let leg = Leg::of(m.leg)?;
