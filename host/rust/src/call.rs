@@ -178,7 +178,7 @@ impl Call {
     }
 
     /// The 40 bytes as they lie in this machine's memory, to keep them elsewhere.
-    /// Bytes 29 to 31 are padding, and may be anything.
+    /// Bytes 29 to 31 are padding, and may be anything: leave them out of a checksum.
     pub fn to_bytes(&self) -> [u8; 40] {
         raw::bytes_of(*self)
     }
