@@ -1,0 +1,252 @@
+use Prim.Native.Nat.{ℕ, _+_, _<_}
+use borrow.Author.Needs.{needs}
+use native.Mathlib.Omega.{arith}
+use mathlib.Core.Path.{_≡_, sym, ap, _∙_}
+use Rattle.ground.proofs.Ways.{is, isnt}
+use Rattle.rehearsal.specs.Plan.{panelsOf, forwardsTo, next}
+use Rattle.rehearsal.specs.Rehearsal.{ended, keptAs}
+use Rattle.rehearsal.proofs.Offers.{kept-here, forwarded-on}
+use borrow.Fn.Kinds.{In}
+use borrow.Fn.PlainCycle.{Measures, falls, and}
+use borrow.Fn.PlainCycle as cycle
+use Rattle.rehearsal.proofs.forward.Reads as forward
+use Rattle.rehearsal.proofs.forward.Kinds as forward-kinds
+use Rattle.rehearsal.proofs.+forward+offer.Lts-forward as forward-lts
+use Rattle.rehearsal.proofs.offer.Reads as offer
+use Rattle.rehearsal.proofs.offer.Kinds as offer-kinds
+use Rattle.rehearsal.proofs.+forward+offer.Lts-offer as offer-lts
+use Rattle.rehearsal.proofs.end_at.Reads as end-at-reads
+use Rattle.rehearsal.proofs.forwards_to.Reads as forwards-to-reads
+use Rattle.rehearsal.proofs.kept_as.Reads as kept-as-reads
+use Rattle.rehearsal.proofs.panel_at.Reads as panel-at-reads
+use Rattle.rehearsal.proofs.+forward+offer.{statement}
+use Rattle.rehearsal.proofs.+forward+offer.Tie.{close}
+
+abbrev μ-forward : Measures 1 forward-kinds.ps ℕ
+μ-forward κs a = a .1 .1 .1 .0 + a .1 .1 .1 .0
+
+abbrev μ-offer : Measures 1 offer-kinds.ps ℕ
+μ-offer κs a = a .1 .1 .0 + a .1 .1 .0 + 1
+
+abbrev forward-at : ℕ → In 1 forward-kinds.ps
+forward-at t = and 1 forward-kinds.ps (cycle.is 1 forward-kinds.ps μ-forward t) forward.Pre
+
+abbrev forward-below : ℕ → In 1 forward-kinds.ps
+forward-below t = and 1 forward-kinds.ps (falls 1 forward-kinds.ps _<_ μ-forward t) forward.Pre
+
+abbrev offer-at : ℕ → In 1 offer-kinds.ps
+offer-at t = and 1 offer-kinds.ps (cycle.is 1 offer-kinds.ps μ-offer t) offer.Pre
+
+abbrev offer-below : ℕ → In 1 offer-kinds.ps
+offer-below t = and 1 offer-kinds.ps (falls 1 offer-kinds.ps _<_ μ-offer t) offer.Pre
+
+-- src/lib.rt:175:9
+forward-end-at-requires : (t : ℕ) → forward-lts.Need-end-at-requires (
+  end-at-reads.Asked,
+  end-at-reads.Learnt,
+  offer-below t,
+  offer.Post,
+) (forward-at t) forward.Post
+forward-end-at-requires t c κs = search needs
+
+-- src/lib.rt:175:9
+forward-returns : (t : ℕ) → forward-lts.Need-returns (
+  end-at-reads.Asked,
+  end-at-reads.Learnt,
+  offer-below t,
+  offer.Post,
+) (forward-at t) forward.Post
+forward-returns t c = is _ 0 _ _ _ (c .before .if1 .taken) (c .end-at .ensures)
+
+-- src/lib.rt:177:21
+forward-sub-offer : (t : ℕ) → forward-lts.Need-sub-offer (
+  end-at-reads.Asked,
+  end-at-reads.Learnt,
+  offer-below t,
+  offer.Post,
+) (forward-at t) forward.Post
+forward-sub-offer t c = search needs
+
+-- src/lib.rt:177:31
+forward-add-offer : (t : ℕ) → forward-lts.Need-add-offer (
+  end-at-reads.Asked,
+  end-at-reads.Learnt,
+  offer-below t,
+  offer.Post,
+) (forward-at t) forward.Post
+forward-add-offer t c = search needs
+
+-- src/lib.rt:177:5
+forward-offer-requires : (t : ℕ) → forward-lts.Need-offer-requires (
+  end-at-reads.Asked,
+  end-at-reads.Learnt,
+  offer-below t,
+  offer.Post,
+) (forward-at t) forward.Post
+forward-offer-requires t c κs = search needs
+
+-- src/lib.rt:170:1
+forward-returns-2 : (t : ℕ) → forward-lts.Need-returns-2 (
+  end-at-reads.Asked,
+  end-at-reads.Learnt,
+  offer-below t,
+  offer.Post,
+) (forward-at t) forward.Post
+forward-returns-2 t c = isnt _ 0 _ _ _ (c .before .if1 .left) (c .offer .ensures)
+
+-- src/lib.rt:161:9
+offer-panel-at-requires : (t : ℕ) → offer-lts.Need-panel-at-requires (
+  panel-at-reads.Asked,
+  panel-at-reads.Learnt,
+  forwards-to-reads.Asked,
+  forwards-to-reads.Learnt,
+  kept-as-reads.Asked,
+  kept-as-reads.Learnt,
+  end-at-reads.Asked,
+  end-at-reads.Learnt,
+  forward-below t,
+  forward.Post,
+) (offer-at t) offer.Post
+offer-panel-at-requires t c κs = search needs
+
+-- src/lib.rt:162:9
+offer-forwards-to-requires : (t : ℕ) → offer-lts.Need-forwards-to-requires (
+  panel-at-reads.Asked,
+  panel-at-reads.Learnt,
+  forwards-to-reads.Asked,
+  forwards-to-reads.Learnt,
+  kept-as-reads.Asked,
+  kept-as-reads.Learnt,
+  end-at-reads.Asked,
+  end-at-reads.Learnt,
+  forward-below t,
+  forward.Post,
+) (offer-at t) offer.Post
+offer-forwards-to-requires t c κs = search needs
+
+-- src/lib.rt:164:27
+offer-kept-as-requires : (t : ℕ) → offer-lts.Need-kept-as-requires (
+  panel-at-reads.Asked,
+  panel-at-reads.Learnt,
+  forwards-to-reads.Asked,
+  forwards-to-reads.Learnt,
+  kept-as-reads.Asked,
+  kept-as-reads.Learnt,
+  end-at-reads.Asked,
+  end-at-reads.Learnt,
+  forward-below t,
+  forward.Post,
+) (offer-at t) offer.Post
+offer-kept-as-requires t c κs = search needs
+
+-- src/lib.rt:164:9
+offer-end-at-requires : (t : ℕ) → offer-lts.Need-end-at-requires (
+  panel-at-reads.Asked,
+  panel-at-reads.Learnt,
+  forwards-to-reads.Asked,
+  forwards-to-reads.Learnt,
+  kept-as-reads.Asked,
+  kept-as-reads.Learnt,
+  end-at-reads.Asked,
+  end-at-reads.Learnt,
+  forward-below t,
+  forward.Post,
+) (offer-at t) offer.Post
+offer-end-at-requires t c κs = search needs
+
+-- src/lib.rt:164:9
+offer-returns : (t : ℕ) → offer-lts.Need-returns (
+  panel-at-reads.Asked,
+  panel-at-reads.Learnt,
+  forwards-to-reads.Asked,
+  forwards-to-reads.Learnt,
+  kept-as-reads.Asked,
+  kept-as-reads.Learnt,
+  end-at-reads.Asked,
+  end-at-reads.Learnt,
+  forward-below t,
+  forward.Post,
+) (offer-at t) offer.Post
+unfolding next
+offer-returns t c =
+    let a = c .before .before .before .before .before .before .args in
+    let plan = panelsOf (a .plan .now) in
+    let found = c .before .before .before .before .panel-at .ensures in
+    let stays : next plan (a .at) ≡ 0 =
+    sym (ap forwardsTo found) ∙ sym (c .before .before .before .forwards-to .ensures) ∙ c .before .before .if1 .taken in
+    c .end-at .ensures
+    ∙ ap (λ (k : ℕ). ended (a .at) k (a .counter)) (c .before .kept-as .ensures ∙ ap keptAs found)
+    ∙ kept-here plan (a .at) (a .left) (a .counter) stays
+
+-- src/lib.rt:166:5
+offer-forward-requires : (t : ℕ) → offer-lts.Need-forward-requires (
+  panel-at-reads.Asked,
+  panel-at-reads.Learnt,
+  forwards-to-reads.Asked,
+  forwards-to-reads.Learnt,
+  kept-as-reads.Asked,
+  kept-as-reads.Learnt,
+  end-at-reads.Asked,
+  end-at-reads.Learnt,
+  forward-below t,
+  forward.Post,
+) (offer-at t) offer.Post
+offer-forward-requires t c κs = search needs
+
+-- src/lib.rt:157:1
+offer-returns-2 : (t : ℕ) → offer-lts.Need-returns-2 (
+  panel-at-reads.Asked,
+  panel-at-reads.Learnt,
+  forwards-to-reads.Asked,
+  forwards-to-reads.Learnt,
+  kept-as-reads.Asked,
+  kept-as-reads.Learnt,
+  end-at-reads.Asked,
+  end-at-reads.Learnt,
+  forward-below t,
+  forward.Post,
+) (offer-at t) offer.Post
+unfolding next
+offer-returns-2 t c =
+    let a = c .before .before .before .before .before .args in
+    let plan = panelsOf (a .plan .now) in
+    let to : c .before .before .forwards-to .result ≡ next plan (a .at) =
+    c .before .before .forwards-to .ensures ∙ ap forwardsTo (c .before .before .before .panel-at .ensures) in
+    c .forward .ensures ∙ forwarded-on plan (a .at) _ (a .left) (a .counter) to (c .before .if1 .left)
+
+pub +forward+offer-spec : {M : Type 1} → statement M
++forward+offer-spec = close μ-forward μ-offer (λ t. forward-lts.spec (
+  end-at-reads.Asked,
+  end-at-reads.Learnt,
+  offer-below t,
+  offer.Post,
+)
+    (forward-at t)
+    forward.Post
+    (forward-end-at-requires t)
+    (forward-returns t)
+    (forward-sub-offer t)
+    (forward-add-offer t)
+    (forward-offer-requires t)
+    (forward-returns-2 t))
+    λ t. offer-lts.spec (
+      panel-at-reads.Asked,
+      panel-at-reads.Learnt,
+      forwards-to-reads.Asked,
+      forwards-to-reads.Learnt,
+      kept-as-reads.Asked,
+      kept-as-reads.Learnt,
+      end-at-reads.Asked,
+      end-at-reads.Learnt,
+      forward-below t,
+      forward.Post,
+    )
+    (offer-at t)
+    offer.Post
+    (offer-panel-at-requires t)
+    (offer-forwards-to-requires t)
+    (offer-kept-as-requires t)
+    (offer-end-at-requires t)
+    (offer-returns t)
+    (offer-forward-requires t)
+    (offer-returns-2 t)

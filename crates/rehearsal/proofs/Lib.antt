@@ -1,0 +1,2 @@
+pub mod Panels
+pub mod Offers
