@@ -1,2 +1,4 @@
 pub mod Panels
 pub mod Offers
+pub mod Tonight
+pub mod Circles

@@ -55,8 +55,12 @@ forwarded plan at to left counter =
 abbrev pub rehearsed : ℕ → List Panel → ℕ → Rehearsed
 rehearsed allowed plan start = offered plan start allowed 0
 
--- "The limit is a short-form station's": numbers that a host lends are a plan if there are four for each panel
+-- numbers that a host lends are a plan if there are four for each panel
+abbrev pub isPlan : List ℕ → ℕ → Bool
+isPlan numbers start = eqb (length numbers % 4) 0 && planOk (panelsOf numbers) start
+
+-- "The limit is a short-form station's"
 abbrev pub rehearsalOf : List ℕ → ℕ → Rehearsed
 rehearsalOf numbers start =
-    when eqb (length numbers % 4) 0 && planOk (panelsOf numbers) start then rehearsed shortLimit (panelsOf numbers) start else
+    when isPlan numbers start then rehearsed shortLimit (panelsOf numbers) start else
     refusal

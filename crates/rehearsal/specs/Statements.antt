@@ -2,15 +2,15 @@
 use Prim.Native.Nat.{ℕ, suc, _+_, _≤_, _<_}
 use mathlib.Core.Path.{_≡_}
 use mathlib.Core.Bool.{Bool, _&&_, not}
-use mathlib.Core.Logic.{_↔_}
+use mathlib.Core.Logic.{_↔_, _⊎_}
 use mathlib.Core.List.{List}
 use lib.Dec.{T}
 use lib.ListN.{length}
 use Rattle.station.specs.Station.{shortLimit}
 use Rattle.rehearsal.specs.declared.Panel.{Panel}
 use Rattle.rehearsal.specs.declared.Rehearsed.{Rehearsed}
-use Rattle.rehearsal.specs.Plan.{given, isBusy, isUnattended, panelsOf, panelAt, next, asks, after, inPlan, planOk}
-use Rattle.rehearsal.specs.Rehearsal.{rings, busy, limit, rehearsed, rehearsalOf, refusal}
+use Rattle.rehearsal.specs.Plan.{given, isBusy, isUnattended, panelAt, next, asks, after, inPlan, planOk}
+use Rattle.rehearsal.specs.Rehearsal.{rings, busy, limit, refusal, rehearsed, isPlan, rehearsalOf}
 
 -- "a busy panel without cfb ends as busy", if it has no cfu
 abbrev pub keepsBusy : Panel → Bool
@@ -27,6 +27,7 @@ pub record Tonight (allowed : ℕ) (plan : List Panel) (start : ℕ) (r : Rehear
   pub within : r .counter ≤ allowed
   pub asked : (n : ℕ) → n < r .counter → T (asks plan (after plan start n))
   pub lastIs : r .last ≡ after plan start (r .counter)
+  pub endsAs : (r .ending ≡ rings) ⊎ ((r .ending ≡ busy) ⊎ (r .ending ≡ limit))
   pub ringsWhen : (r .ending ≡ rings) ↔ T (keepsRinging (panelAt plan (r .last)))
   pub busyWhen : (r .ending ≡ busy) ↔ T (keepsBusy (panelAt plan (r .last)))
   pub limitWhen : (r .ending ≡ limit) ↔ (T (asks plan (r .last)) × (allowed < r .counter + 1))
@@ -40,6 +41,13 @@ OnlyTonight =
     (allowed : ℕ) (plan : List Panel) (start : ℕ) (r : Rehearsed)
     → Tonight allowed plan start r
     → r ≡ rehearsed allowed plan start
+
+-- the answer is 3 exactly where the numbers are no plan or the start is outside it, and is then otherwise empty
+abbrev pub RefusedExactly : Type 0
+RefusedExactly =
+    (numbers : List ℕ) (start : ℕ)
+    → ((rehearsalOf numbers start .code ≡ 3) ↔ T (not (isPlan numbers start)))
+    × (rehearsalOf numbers start .code ≡ 3 → rehearsalOf numbers start ≡ refusal)
 
 -- one forward more is one step more
 abbrev pub StepsOn : Type 0

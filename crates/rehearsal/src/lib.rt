@@ -1,12 +1,10 @@
 // Who will ring tonight: a call is offered to the panels of a plan, one after the other, until one keeps it.
 ghost use mathlib.Core.Path.{_≡_};
-ghost use mathlib.Core.Bool.{_&&_};
-ghost use Prim.Native.Nat.{_+_, _*_, _≤_, _<_, _%_};
-ghost use lib.Dec.{eqb};
+ghost use Prim.Native.Nat.{_+_, _≤_, _<_};
 ghost use lib.ListN.{length, getD};
 ghost use Rattle.ground.specs.Lists.{all};
-ghost use Rattle.rehearsal.specs.Plan.{panelOf, panelsOf, noPanel, panelAt, forwardsTo, reasonOf, panelOk, planOk};
-ghost use Rattle.rehearsal.specs.Rehearsal.{ended, keptAs, offered, forwarded, rehearsalOf};
+ghost use Rattle.rehearsal.specs.Plan.{panelOf, panelsOf, noPanel, panelAt, forwardsTo, reasonOf, panelOk};
+ghost use Rattle.rehearsal.specs.Rehearsal.{ended, keptAs, offered, forwarded, isPlan, rehearsalOf};
 
 // A panel: three destinations, 0 for none, and two marks, 0 or 1.
 pub struct Panel {
@@ -88,9 +86,11 @@ pub fn forwards_to(p: Panel) -> u16
 pub fn reason_of(p: Panel) -> u8
     ensures { λ r. ⌜ r ≡ reasonOf p ⌝ }
 {
-    if !(p.cfu == 0) {
+    let cfu = p.cfu;
+    let busy = p.busy;
+    if !(cfu == 0) {
         1
-    } else if p.busy == 1 {
+    } else if busy == 1 {
         2
     } else {
         3
@@ -125,7 +125,7 @@ fn panels_ok(plan: &[u16], panels: usize) -> bool
 
 // The test behind number 3: "an empty plan, one over 256 panels, or a start or destination outside the plan".
 fn plan_ok(plan: &[u16], start: u16) -> bool
-    ensures { λ r. ⌜ r ≡ eqb (length (now (plan .entry)) % 4) 0 && planOk (panelsOf (now (plan .entry))) start ⌝ }
+    ensures { λ r. ⌜ r ≡ isPlan (now (plan .entry)) start ⌝ }
 {
     let panels = plan.len() / 4;
     let place = start as usize;

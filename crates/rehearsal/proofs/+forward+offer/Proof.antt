@@ -1,3 +1,5 @@
+-- `offer` and `forward` call each other, and the remaining limit falls: 2n + 1 for `offer` with n left, 2n for `forward`. What each
+-- says of the other is Offers. Assumes nothing.
 use Prim.Native.Nat.{ℕ, _+_, _<_}
 use borrow.Author.Needs.{needs}
 use native.Mathlib.Omega.{arith}
@@ -40,7 +42,6 @@ offer-at t = and 1 offer-kinds.ps (cycle.is 1 offer-kinds.ps μ-offer t) offer.P
 abbrev offer-below : ℕ → In 1 offer-kinds.ps
 offer-below t = and 1 offer-kinds.ps (falls 1 offer-kinds.ps _<_ μ-offer t) offer.Pre
 
--- src/lib.rt:175:9
 forward-end-at-requires : (t : ℕ) → forward-lts.Need-end-at-requires (
   end-at-reads.Asked,
   end-at-reads.Learnt,
@@ -49,7 +50,6 @@ forward-end-at-requires : (t : ℕ) → forward-lts.Need-end-at-requires (
 ) (forward-at t) forward.Post
 forward-end-at-requires t c κs = search needs
 
--- src/lib.rt:175:9
 forward-returns : (t : ℕ) → forward-lts.Need-returns (
   end-at-reads.Asked,
   end-at-reads.Learnt,
@@ -58,7 +58,6 @@ forward-returns : (t : ℕ) → forward-lts.Need-returns (
 ) (forward-at t) forward.Post
 forward-returns t c = is _ 0 _ _ _ (c .before .if1 .taken) (c .end-at .ensures)
 
--- src/lib.rt:177:21
 forward-sub-offer : (t : ℕ) → forward-lts.Need-sub-offer (
   end-at-reads.Asked,
   end-at-reads.Learnt,
@@ -67,7 +66,6 @@ forward-sub-offer : (t : ℕ) → forward-lts.Need-sub-offer (
 ) (forward-at t) forward.Post
 forward-sub-offer t c = search needs
 
--- src/lib.rt:177:31
 forward-add-offer : (t : ℕ) → forward-lts.Need-add-offer (
   end-at-reads.Asked,
   end-at-reads.Learnt,
@@ -76,7 +74,6 @@ forward-add-offer : (t : ℕ) → forward-lts.Need-add-offer (
 ) (forward-at t) forward.Post
 forward-add-offer t c = search needs
 
--- src/lib.rt:177:5
 forward-offer-requires : (t : ℕ) → forward-lts.Need-offer-requires (
   end-at-reads.Asked,
   end-at-reads.Learnt,
@@ -85,7 +82,6 @@ forward-offer-requires : (t : ℕ) → forward-lts.Need-offer-requires (
 ) (forward-at t) forward.Post
 forward-offer-requires t c κs = search needs
 
--- src/lib.rt:170:1
 forward-returns-2 : (t : ℕ) → forward-lts.Need-returns-2 (
   end-at-reads.Asked,
   end-at-reads.Learnt,
@@ -94,7 +90,6 @@ forward-returns-2 : (t : ℕ) → forward-lts.Need-returns-2 (
 ) (forward-at t) forward.Post
 forward-returns-2 t c = isnt _ 0 _ _ _ (c .before .if1 .left) (c .offer .ensures)
 
--- src/lib.rt:161:9
 offer-panel-at-requires : (t : ℕ) → offer-lts.Need-panel-at-requires (
   panel-at-reads.Asked,
   panel-at-reads.Learnt,
@@ -109,7 +104,6 @@ offer-panel-at-requires : (t : ℕ) → offer-lts.Need-panel-at-requires (
 ) (offer-at t) offer.Post
 offer-panel-at-requires t c κs = search needs
 
--- src/lib.rt:162:9
 offer-forwards-to-requires : (t : ℕ) → offer-lts.Need-forwards-to-requires (
   panel-at-reads.Asked,
   panel-at-reads.Learnt,
@@ -124,7 +118,6 @@ offer-forwards-to-requires : (t : ℕ) → offer-lts.Need-forwards-to-requires (
 ) (offer-at t) offer.Post
 offer-forwards-to-requires t c κs = search needs
 
--- src/lib.rt:164:27
 offer-kept-as-requires : (t : ℕ) → offer-lts.Need-kept-as-requires (
   panel-at-reads.Asked,
   panel-at-reads.Learnt,
@@ -139,7 +132,6 @@ offer-kept-as-requires : (t : ℕ) → offer-lts.Need-kept-as-requires (
 ) (offer-at t) offer.Post
 offer-kept-as-requires t c κs = search needs
 
--- src/lib.rt:164:9
 offer-end-at-requires : (t : ℕ) → offer-lts.Need-end-at-requires (
   panel-at-reads.Asked,
   panel-at-reads.Learnt,
@@ -154,7 +146,6 @@ offer-end-at-requires : (t : ℕ) → offer-lts.Need-end-at-requires (
 ) (offer-at t) offer.Post
 offer-end-at-requires t c κs = search needs
 
--- src/lib.rt:164:9
 offer-returns : (t : ℕ) → offer-lts.Need-returns (
   panel-at-reads.Asked,
   panel-at-reads.Learnt,
@@ -178,7 +169,6 @@ offer-returns t c =
     ∙ ap (λ (k : ℕ). ended (a .at) k (a .counter)) (c .before .kept-as .ensures ∙ ap keptAs found)
     ∙ kept-here plan (a .at) (a .left) (a .counter) stays
 
--- src/lib.rt:166:5
 offer-forward-requires : (t : ℕ) → offer-lts.Need-forward-requires (
   panel-at-reads.Asked,
   panel-at-reads.Learnt,
@@ -193,7 +183,6 @@ offer-forward-requires : (t : ℕ) → offer-lts.Need-forward-requires (
 ) (offer-at t) offer.Post
 offer-forward-requires t c κs = search needs
 
--- src/lib.rt:157:1
 offer-returns-2 : (t : ℕ) → offer-lts.Need-returns-2 (
   panel-at-reads.Asked,
   panel-at-reads.Learnt,
