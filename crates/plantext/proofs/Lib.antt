@@ -1,0 +1,7 @@
+pub mod Bytes
+pub mod Folds
+pub mod Faults
+pub mod ReadBack
+pub mod Words
+pub mod Ways
+pub mod LastLine
