@@ -9,12 +9,12 @@ use Rattle.printout.specs.Cases.{charactersOf}
 use Rattle.rehearsal.specs.declared.Panel.{Panel}
 use Rattle.rehearsal.specs.declared.Rehearsed.{Rehearsed}
 use Rattle.rehearsal.specs.Plan.{panelsOf, panelAt, reasonOf, next}
-use Rattle.rehearsal.specs.Rehearsal.{rings, busy, rehearsalOf}
+use Rattle.rehearsal.specs.Rehearsal.{rings, endsBusy, rehearsalOf}
 
 abbrev pub endingWord : ℕ → List ℕ
 endingWord ending =
     when eqb ending rings then charactersOf "rings" else
-    when eqb ending busy then charactersOf "busy" else
+    when eqb ending endsBusy then charactersOf "busy" else
     charactersOf "limit"
 
 abbrev pub reasonWord : ℕ → List ℕ

@@ -14,7 +14,7 @@ use Rattle.station.specs.Station.{shortLimit}
 use Rattle.rehearsal.specs.declared.Panel.{Panel}
 use Rattle.rehearsal.specs.declared.Rehearsed.{Rehearsed}
 use Rattle.rehearsal.specs.Plan.{noPanel, panelAt, given, isBusy, isUnattended, forwardsTo, next, asks, after, inPlan, panelOk, planOk}
-use Rattle.rehearsal.specs.Rehearsal.{limit, endingAt, ended, forwards, rehearsed}
+use Rattle.rehearsal.specs.Rehearsal.{atLimit, endingAt, ended, forwards, rehearsed}
 use Rattle.rehearsal.specs.Statements.{CircleEnds, StaysInPlan}
 use Rattle.rehearsal.proofs.Tonight.{steps-on, answer-is, asks-at-limit, right-tonight}
 

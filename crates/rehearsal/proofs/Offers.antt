@@ -11,7 +11,7 @@ use Rattle.ground.specs.Choice.{when_then_else_}
 use Rattle.rehearsal.specs.declared.Panel.{Panel}
 use Rattle.rehearsal.specs.declared.Rehearsed.{Rehearsed}
 use Rattle.rehearsal.specs.Plan.{panelAt, given, next, asks, after}
-use Rattle.rehearsal.specs.Rehearsal.{limit, keptAs, endingAt, ended, forwards, offered, forwarded}
+use Rattle.rehearsal.specs.Rehearsal.{atLimit, keptAs, endingAt, ended, forwards, offered, forwarded}
 
 keeps : (n : ℕ) → n ≡ 0 → given n ≡ false
 keeps n e = ap given e
@@ -56,11 +56,11 @@ pub forwarded-on : (plan : List Panel) (at to left counter : ℕ) → to ≡ nex
 unfolding offered after forwards
 forwarded-on plan at to zero counter e f =
     let q : asks plan at ≡ true = ap given (sym e) ∙ wants to f in
-    ended-same at limit (endingAt plan at) 0 counter (simp q) refl
+    ended-same at atLimit (endingAt plan at) 0 counter (simp q) refl
 forwarded-on plan at to (suc left) counter e f =
     let q : asks plan at ≡ true = ap given (sym e) ∙ wants to f in
     let l : suc left - 1 ≡ left = omega arith in
-    sym (isnt (suc left) 0 (offered plan to (suc left - 1) (counter + 1)) (ended at limit counter) _ (λ z. omega arith) refl)
+    sym (isnt (suc left) 0 (offered plan to (suc left - 1) (counter + 1)) (ended at atLimit counter) _ (λ z. omega arith) refl)
     ∙ ap (λ (n : ℕ). offered plan to n (counter + 1)) l
     ∙ ap (λ (n : ℕ). offered plan n left (counter + 1)) e
     ∙ one-forward plan at left counter q

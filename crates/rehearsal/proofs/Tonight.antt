@@ -9,13 +9,12 @@ use native.Mathlib.Nat.{not-suc-le-zero, le-of-suc-le-suc}
 use lib.Dec.{T, eqb, ltb}
 use borrow.Author.Tests.{ltb-true, ltb-false}
 use Rattle.ground.specs.Choice.{when_then_else_}
-use Rattle.ground.proofs.Bools.{is-true, from-true, from-false, by-cases}
-use Rattle.station.specs.Station.{shortLimit}
+use Rattle.ground.proofs.Bools.{is-true, is-false, from-true, by-cases}
 use Rattle.rehearsal.specs.declared.Panel.{Panel}
 use Rattle.rehearsal.specs.declared.Rehearsed.{Rehearsed}
-use Rattle.rehearsal.specs.Plan.{given, isBusy, isUnattended, panelsOf, panelAt, forwardsTo, next, asks, after}
-use Rattle.rehearsal.specs.Rehearsal.{rings, busy, limit, keptAs, endingAt, ended, forwards, offered, refusal, rehearsed, isPlan}
-use Rattle.rehearsal.specs.Statements.{keepsBusy, keepsRinging, Tonight, RightTonight, OnlyTonight, RefusedExactly, StepsOn}
+use Rattle.rehearsal.specs.Plan.{given, isBusy, isUnattended, panelAt, forwardsTo, reasonOf, next, asks, after}
+use Rattle.rehearsal.specs.Rehearsal.{rings, endsBusy, atLimit, keptAs, endingAt, ended, forwards, offered, rehearsed}
+use Rattle.rehearsal.specs.Statements.{keepsBusy, keepsRinging, Tonight, RightTonight, OnlyTonight, StepsOn, InOrder, ForwardsInOrder}
 
 pub steps-on : StepsOn
 unfolding after
@@ -51,6 +50,16 @@ asks-at-limit (suc left) plan at e =
     (λ q. simp q (ap suc (asks-at-limit left plan (next plan at) (simp q at e))))
     (λ q. absurd (false≢true (simp q at e)))
 
+pub forwards-in-order : ForwardsInOrder
+forwards-in-order p =
+    let cfu = given (p .cfu) in
+    record {
+      cfuFirst = λ c. let c = is-true cfu c in (simp c, simp c);
+      thenCfb = λ c b. let c = is-false cfu c in let b = is-true (isBusy p) b in (simp (c, b), simp (c, b));
+      thenCfnr = λ c b u. let c = is-false cfu c in let b = is-false (isBusy p) b in let u = is-true (isUnattended p) u in (simp (c, b, u), simp (c, b));
+      elseNone = λ c b u. let c = is-false cfu c in let b = is-false (isBusy p) b in let u = is-false (isUnattended p) u in simp (c, b, u);
+    }
+
 -- a panel that keeps the call does not forward it, and is busy or rings
 pub keeps-by : (p : Panel) → (keepsBusy p ≡ not (given (forwardsTo p)) && isBusy p) × (keepsRinging p ≡ not (given (forwardsTo p)) && not (isBusy p))
 keeps-by p =
@@ -64,24 +73,24 @@ keeps-by p =
 
 -- the ending at a panel that wants to forward the call or not, and is busy or not
 abbrev endingBy : Bool → Bool → ℕ
-endingBy wants isBusy = when wants then limit else when isBusy then busy else rings
+endingBy wants isBusy = when wants then atLimit else when isBusy then endsBusy else rings
 
 rings-by : (g b : Bool) → (endingBy g b ≡ rings) ↔ T (not g && not b)
 rings-by true b = ((λ e. omega arith), (λ t. absurd t))
 rings-by false true = ((λ e. omega arith), (λ t. absurd t))
 rings-by false false = ((λ e. tt), (λ t. refl))
 
-busy-by : (g b : Bool) → (endingBy g b ≡ busy) ↔ T (not g && b)
+busy-by : (g b : Bool) → (endingBy g b ≡ endsBusy) ↔ T (not g && b)
 busy-by true b = ((λ e. omega arith), (λ t. absurd t))
 busy-by false true = ((λ e. tt), (λ t. refl))
 busy-by false false = ((λ e. omega arith), (λ t. absurd t))
 
-one-of-three : (g b : Bool) → (endingBy g b ≡ rings) ⊎ ((endingBy g b ≡ busy) ⊎ (endingBy g b ≡ limit))
+one-of-three : (g b : Bool) → (endingBy g b ≡ rings) ⊎ ((endingBy g b ≡ endsBusy) ⊎ (endingBy g b ≡ atLimit))
 one-of-three true b = inr (inr refl)
 one-of-three false true = inr (inl refl)
 one-of-three false false = inl refl
 
-limit-by : (g b : Bool) → (endingBy g b ≡ limit) ↔ T g
+limit-by : (g b : Bool) → (endingBy g b ≡ atLimit) ↔ T g
 limit-by true b = ((λ e. tt), (λ t. refl))
 limit-by false true = ((λ e. omega arith), (λ t. absurd t))
 limit-by false false = ((λ e. omega arith), (λ t. absurd t))
@@ -163,12 +172,3 @@ only-tonight allowed plan start r right =
     let l : r .last ≡ after plan start (forwards allowed plan start) = right .lastIs ∙ ap (after plan start) n in
     let e = same-ending allowed plan start r right ∙ ap (endingAt plan) l in
     same-answer r _ _ _ (right .done) e l n ∙ sym (answer-is allowed plan start)
-
-refused-by : (b : Bool) (x : Rehearsed) → x .code ≡ 0
-    → (((when b then x else refusal) .code ≡ 3) ↔ T (not b)) × ((when b then x else refusal) .code ≡ 3 → (when b then x else refusal) ≡ refusal)
-refused-by true x e = (((λ h. absurd (omega arith)), (λ t. absurd t)), (λ h. absurd (omega arith)))
-refused-by false x e = (((λ h. tt), (λ t. refl)), (λ h. refl))
-
-pub refused-exactly : RefusedExactly
-refused-exactly numbers start =
-    refused-by (isPlan numbers start) (rehearsed shortLimit (panelsOf numbers) start) (right-tonight shortLimit (panelsOf numbers) start .done)

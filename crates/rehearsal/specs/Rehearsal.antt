@@ -10,14 +10,15 @@ use Rattle.rehearsal.specs.declared.Panel.{Panel}
 use Rattle.rehearsal.specs.declared.Rehearsed.{Rehearsed}
 use Rattle.rehearsal.specs.Plan.{panelsOf, panelAt, isBusy, next, asks, after, planOk}
 
+-- the three endings
 abbrev pub rings : ℕ
 rings = 1
 
-abbrev pub busy : ℕ
-busy = 2
+abbrev pub endsBusy : ℕ
+endsBusy = 2
 
-abbrev pub limit : ℕ
-limit = 3
+abbrev pub atLimit : ℕ
+atLimit = 3
 
 -- a refusal is its number and otherwise empty: no panel and no ending are 0, no counter is 255, since 0 is one
 abbrev pub refusal : Rehearsed
@@ -33,11 +34,11 @@ forwards (suc left) plan at = when asks plan at then suc (forwards left plan (ne
 
 -- how a call ends at a panel that keeps it
 abbrev pub keptAs : Panel → ℕ
-keptAs p = when isBusy p then busy else rings
+keptAs p = when isBusy p then endsBusy else rings
 
 -- at a panel that wants to forward it although all forwards are made, it ends as limit
 abbrev pub endingAt : List Panel → ℕ → ℕ
-endingAt plan last = when asks plan last then limit else keptAs (panelAt plan last)
+endingAt plan last = when asks plan last then atLimit else keptAs (panelAt plan last)
 
 -- a call that is offered to a panel, with so many forwards left and so many behind it
 unfoldable pub offered : List Panel → ℕ → ℕ → ℕ → Rehearsed
@@ -48,7 +49,7 @@ offered plan at left counter =
 -- the panel wants to forward it to another
 abbrev pub forwarded : List Panel → ℕ → ℕ → ℕ → ℕ → Rehearsed
 forwarded plan at to left counter =
-    when eqb left 0 then ended at limit counter else
+    when eqb left 0 then ended at atLimit counter else
     offered plan to (left - 1) (counter + 1)
 
 -- who rings, where so many forwards are allowed
