@@ -13,7 +13,7 @@ use Rattle.ground.specs.Choice.{when_then_else_}
 use Rattle.ground.proofs.Bools.{by-cases}
 use Rattle.ground.proofs.Walks.{both}
 use Rattle.plantext.specs.declared.Reading.{Reading}
-use Rattle.plantext.specs.Text.{beginning, onward, numbersBefore, atFault, isDigit, isNewline, wholeLine, byteRead, endsPanel, stored, textRead, planAfter}
+use Rattle.plantext.specs.Text.{beginning, onward, numbersBefore, atFault, greatest, isDigit, isNewline, wholeLine, byteRead, endsPanel, stored, textRead, planAfter}
 use Rattle.plantext.specs.Statements.{PiecesAsOne, FaultStays, newlinesIn, FaultNamesLine}
 
 pub pieces-as-one : PiecesAsOne
@@ -41,7 +41,7 @@ byte-view r byte e =
     (λ d.
     let low = leb-true 48 byte (both (leb 48 byte) (leb byte 57) d .0) in
     rw (d, ne-eqb byte 10 (λ q. omega (arith, q, low)))
-    (by-cases (leb (r .value * 10 + (byte - 48)) 65535) (λ k. rw k (inr (e, refl))) (λ k. rw k (inl refl))))
+    (by-cases (leb (r .value * 10 + (byte - 48)) greatest) (λ k. rw k (inr (e, refl))) (λ k. rw k (inl refl))))
     (λ d.
     rw d
     (by-cases (eqb byte 32)

@@ -36,10 +36,14 @@ atFault r = record {
   fault = r .line;
 }
 
--- a digit, by its value: "a number over 65,535" is a fault
+-- "a number over 65,535" is a fault
+abbrev pub greatest : ℕ
+greatest = 65535
+
+-- a digit, by its value
 abbrev pub digitRead : Reading → ℕ → Reading
 digitRead r digit =
-    when leb (r .value * 10 + digit) 65535 then record {
+    when leb (r .value * 10 + digit) greatest then record {
       line = r .line;
       numbers = r .numbers;
       begun = true;
