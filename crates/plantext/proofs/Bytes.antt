@@ -9,14 +9,11 @@ use lib.Dec.{ltb, leb}
 use lib.ListN.{length}
 use Rattle.ground.proofs.Walks.{both}
 use Rattle.plantext.specs.declared.Reading.{Reading}
-use Rattle.plantext.specs.Text.{numbersBefore, atFault, numberRead, spaceRead, sound, isNewline, wholeLine, endsPanel, hasRoom, placeOf, panelStored, stored, byteRead, textRead, planAfter, closing}
+use Rattle.plantext.specs.Text.{sound, isNewline, wholeLine, endsPanel, hasRoom, placeOf, panelStored, stored, byteRead, textRead, planAfter, closing}
 
-module _ (r n : Reading) (before : ℕ) (e : before ≡ numbersBefore (r .line)) where
-  pub number-ends : r .begun && ltb (r .numbers) before ≡ true → n ≡ numberRead r → n ≡ spaceRead r
-  number-ends t h = simp (rw e at t) h
-
-  pub no-number-ends : r .begun && ltb (r .numbers) before ≡ false → n ≡ atFault r → n ≡ spaceRead r
-  no-number-ends t h = simp (rw e at t) h
+-- the last of two tests
+pub also : (a b : Bool) → a && b ≡ true → b ≡ true
+also a b t = both a b t .1
 
 -- there are four places for the panel of this line
 module _ (r : Reading) (byte : ℕ) (plan : List ℕ) (t : endsPanel r byte && hasRoom (r .line) plan ≡ true) where

@@ -1,19 +1,18 @@
 -- A text in pieces, and a text with a fault. Assumes nothing.
 use Prim.Native.Nat.{ℕ, suc, _+_, _-_, _*_, _≤_, _<_}
-use mathlib.Core.Bool.{Bool, true, false, not, _&&_}
+use mathlib.Core.Bool.{Bool, true, false, not}
 use mathlib.Core.Logic.{_⊎_, inl, inr, ⊎-elim}
 use mathlib.Core.List.{List, [], _∷_, _++_}
 use mathlib.Core.Path.{_≡_, refl, sym, ap, _∙_}
 use native.Mathlib.Nat.{add-zero}
 use native.Mathlib.Omega.{arith}
-use borrow.Author.Tests.{eq-eqb, ne-eqb, lt-ltb, leb-true, eqb-true}
-use lib.Dec.{eqb, ltb, leb}
+use borrow.Author.Tests.{eq-eqb, ne-eqb, lt-ltb, eqb-true}
+use lib.Dec.{eqb, ltb}
 use lib.ListN.{length}
 use Rattle.ground.specs.Choice.{when_then_else_}
 use Rattle.ground.proofs.Bools.{by-cases}
-use Rattle.ground.proofs.Walks.{both}
 use Rattle.plantext.specs.declared.Reading.{Reading}
-use Rattle.plantext.specs.Text.{beginning, onward, numbersBefore, atFault, greatest, isDigit, isNewline, wholeLine, byteRead, endsPanel, stored, textRead, planAfter}
+use Rattle.plantext.specs.Text.{beginning, onward, atFault, isNewline, wholeLine, byteRead, endsPanel, stored, textRead, planAfter}
 use Rattle.plantext.specs.Statements.{PiecesAsOne, FaultStays, newlinesIn, FaultNamesLine}
 
 pub pieces-as-one : PiecesAsOne
@@ -30,29 +29,35 @@ unfolding textRead
 fault-stays r [] h = refl
 fault-stays r (byte ∷ rest) h = rw (byte-behind r byte h) (fault-stays r rest h)
 
+-- a fault, or the same line
+data Stays : Reading → Reading → Type 0 where
+  faulty : {r next : Reading} → next ≡ atFault r → Stays r next
+  on : {r next : Reading} → next .fault ≡ 0 → next .line ≡ r .line → Stays r next
+
+either : (r : Reading) (b : Bool) (x y : Reading) → Stays r x → Stays r y → Stays r (when b then x else y)
+either r true x y p q = p
+either r false x y p q = q
+
+in-line : {r next : Reading} → Stays r next → (next ≡ atFault r) ⊎ ((next .fault ≡ 0) × (next .line ≡ r .line))
+in-line (faulty e) = inl e
+in-line (on e l) = inr (e, l)
+
+other-stays : (r : Reading) (byte : ℕ) → r .fault ≡ 0 → isNewline byte ≡ false → Stays r (byteRead r byte)
+unfolding byteRead
+other-stays r byte e n = rw (eq-eqb (r .fault) 0 e, n) (search (either, faulty, on))
+
+newline-view : (r : Reading) → r .fault ≡ 0 → (byteRead r 10 ≡ atFault r) ⊎ ((byteRead r 10 .fault ≡ 0) × (byteRead r 10 .line ≡ onward (r .line)))
+unfolding byteRead
+newline-view r e = rw (eq-eqb (r .fault) 0 e) (by-cases (wholeLine r) (λ k. rw k (inr (e, refl))) (λ k. rw k (inl refl)))
+
 -- a byte is a fault of its line, or goes on in it, or ends it
 pub byte-view : (r : Reading) (byte : ℕ) → r .fault ≡ 0
     → (byteRead r byte ≡ atFault r)
     ⊎ ((byteRead r byte .fault ≡ 0) × (byteRead r byte .line ≡ when isNewline byte then onward (r .line) else r .line))
-unfolding byteRead
 byte-view r byte e =
-    rw (eq-eqb (r .fault) 0 e)
-    (by-cases (isDigit byte)
-    (λ d.
-    let low = leb-true 48 byte (both (leb 48 byte) (leb byte 57) d .0) in
-    rw (d, ne-eqb byte 10 (λ q. omega (arith, q, low)))
-    (by-cases (leb (r .value * 10 + (byte - 48)) greatest) (λ k. rw k (inr (e, refl))) (λ k. rw k (inl refl))))
-    (λ d.
-    rw d
-    (by-cases (eqb byte 32)
-    (λ s.
-    rw (s, ne-eqb byte 10 (λ q. omega (arith, q, eqb-true byte 32 s)))
-    (by-cases (r .begun && ltb (r .numbers) (numbersBefore (r .line))) (λ k. rw k (inr (e, refl))) (λ k. rw k (inl refl))))
-    (λ s.
-    rw s
-    (by-cases (isNewline byte)
-    (λ n. rw n (by-cases (wholeLine r) (λ k. rw k (inr (e, refl))) (λ k. rw k (inl refl))))
-    (λ n. rw n (inl refl)))))))
+    by-cases (isNewline byte)
+    (λ n. rw (eqb-true byte 10 n) (newline-view r e))
+    (λ n. rw n (in-line (other-stays r byte e n)))
 
 -- behind a faulty line
 module _ (r : Reading) (l : 1 ≤ r .line) where

@@ -26,7 +26,7 @@ plan-stays r [] plan h = refl
 plan-stays r (byte ∷ rest) plan h = rw (byte-behind r byte h, none-stored-behind r byte plan h) (plan-stays r rest plan h)
 
 -- lines are counted from 1
-onward-up : (line : ℕ) → 1 ≤ line → 2 ≤ onward line
+pub onward-up : (line : ℕ) → 1 ≤ line → 2 ≤ onward line
 onward-up line h =
     by-cases (ltb line 18446744073709551615) (λ t. rw t (omega arith)) (λ f. rw f (omega (arith, ltb-false line 18446744073709551615 f)))
 

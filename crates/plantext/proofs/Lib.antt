@@ -5,3 +5,6 @@ pub mod ReadBack
 pub mod Words
 pub mod Ways
 pub mod LastLine
+pub mod Form
+pub mod TooLong
+pub mod Formed

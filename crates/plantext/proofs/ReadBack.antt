@@ -16,7 +16,7 @@ use Rattle.printout.specs.Written.{wrote}
 use Rattle.printout.proofs.Texts.{wrote-on}
 use Rattle.rehearsal.specs.Plan.{panelsOf}
 use Rattle.plantext.specs.declared.Reading.{Reading}
-use Rattle.plantext.specs.Text.{beginning, byteRead, markByte, packed, placeOf, stored, textRead, planAfter, closing}
+use Rattle.plantext.specs.Text.{beginning, byteRead, markByte, packed, placeOf, stored, textRead, planAfter, closing, numbersLent}
 use Rattle.plantext.specs.Statements.{Row, rowText, rowsText, planText, numbersOf, rowFits, ReadsBack, PanelsBack}
 use Rattle.plantext.proofs.Faults.{pieces-as-one}
 
@@ -174,11 +174,11 @@ reads-back start rows buffer s f room fits =
     let plan : planAfter beginning text buffer ≡ wrote (numbersOf rows) 0 buffer = whole .1 ∙ rw (first .reading, first .panels) (rest .1) in
     let over : closing r ≡ [] = none-closing (2 + n) start r at (omega arith) in
     let line : r .line - 2 ≡ n = omega (arith, ap (λ x. x .line) at) in
-    let lent : min n (length buffer / 4) * 4 ≡ n * 4 = omega arith in (
+    let lent : n * 4 ≡ numbersLent r (length buffer) = omega arith in (
       rw over (ap (λ x. x .fault) at),
       rw over (ap (λ x. x .start) at),
       rw over line,
-      rw (over, plan, line, lent) (take-at (numbersOf rows) (drop (0 + length (numbersOf rows)) buffer) (n * 4) (numbers-long rows)),
+      rw (over, plan) (take-at (numbersOf rows) (drop (0 + length (numbersOf rows)) buffer) (numbersLent r (length buffer)) (numbers-long rows ∙ lent)),
     )
 
 -- the marks come out of their number again
