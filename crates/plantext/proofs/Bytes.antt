@@ -1,15 +1,15 @@
 -- What the functions of one byte found, as the definition says it. Assumes nothing.
-use Prim.Native.Nat.{ℕ, _+_, _-_, _*_, _/_, _≤_}
+use Prim.Native.Nat.{ℕ, _+_, _/_, _≤_}
 use mathlib.Core.Bool.{Bool, true, false, _&&_}
 use mathlib.Core.List.{List, [], _∷_}
 use mathlib.Core.Path.{_≡_, refl}
 use native.Mathlib.Omega.{arith}
 use borrow.Author.Tests.{leb-true}
-use lib.Dec.{ltb, leb}
+use lib.Dec.{leb}
 use lib.ListN.{length}
 use Rattle.ground.proofs.Walks.{both}
 use Rattle.plantext.specs.declared.Reading.{Reading}
-use Rattle.plantext.specs.Text.{sound, isNewline, wholeLine, endsPanel, hasRoom, placeOf, panelStored, stored, byteRead, textRead, planAfter, closing}
+use Rattle.plantext.specs.Text.{sound, isNewline, wholeLine, endsPanel, hasRoom, placeOf, panelStored, stored, byteRead, textRead, planAfter}
 
 -- the last of two tests
 pub also : (a b : Bool) → a && b ≡ true → b ≡ true

@@ -1,18 +1,17 @@
 -- A text in pieces, and a text with a fault. Assumes nothing.
-use Prim.Native.Nat.{ℕ, suc, _+_, _-_, _*_, _≤_, _<_}
-use mathlib.Core.Bool.{Bool, true, false, not}
+use Prim.Native.Nat.{ℕ, _+_, _≤_, _<_}
+use mathlib.Core.Bool.{Bool, true, false}
 use mathlib.Core.Logic.{_⊎_, inl, inr, ⊎-elim}
 use mathlib.Core.List.{List, [], _∷_, _++_}
 use mathlib.Core.Path.{_≡_, refl, sym, ap, _∙_}
 use native.Mathlib.Nat.{add-zero}
 use native.Mathlib.Omega.{arith}
 use borrow.Author.Tests.{eq-eqb, ne-eqb, lt-ltb, eqb-true}
-use lib.Dec.{eqb, ltb}
 use lib.ListN.{length}
 use Rattle.ground.specs.Choice.{when_then_else_}
 use Rattle.ground.proofs.Bools.{by-cases}
 use Rattle.plantext.specs.declared.Reading.{Reading}
-use Rattle.plantext.specs.Text.{beginning, onward, atFault, isNewline, wholeLine, byteRead, endsPanel, stored, textRead, planAfter}
+use Rattle.plantext.specs.Text.{beginning, onward, atFault, isNewline, wholeLine, byteRead, stored, textRead, planAfter}
 use Rattle.plantext.specs.Statements.{PiecesAsOne, FaultStays, newlinesIn, FaultNamesLine}
 
 pub pieces-as-one : PiecesAsOne

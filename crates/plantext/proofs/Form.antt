@@ -1,6 +1,6 @@
 -- A text that is read without a fault has the form of a plan. Assumes nothing.
-use Prim.Native.Nat.{ℕ, _+_, _-_, _*_, _≤_, _<_}
-use mathlib.Core.Bool.{Bool, true, false, _&&_, _||_, not, false≢true}
+use Prim.Native.Nat.{ℕ, _+_, _-_, _*_, _≤_}
+use mathlib.Core.Bool.{Bool, true, false, _&&_, _||_}
 use mathlib.Core.Logic.{_⊎_, inl, inr, ⊎-elim}
 use mathlib.Core.List.{List, [], _∷_, _++_, append-assoc, append-nil}
 use mathlib.Core.Path.{_≡_, refl, sym, ap, _∙_}
@@ -8,13 +8,12 @@ use native.Mathlib.Omega.{arith}
 use borrow.Author.Tests.{eq-eqb, lt-leb, leb-true, leb-false, eqb-true, eqb-false, ltb-false}
 use lib.Dec.{eqb, ltb, leb}
 use lib.ListN.{length, length-append}
-use Rattle.ground.specs.Choice.{when_then_else_}
 use Rattle.ground.proofs.Bools.{by-cases, nor-l, nor-r, is-false, from-false}
 use Rattle.ground.proofs.Walks.{both}
 use Rattle.printout.specs.Line.{digit, space, newline}
 use Rattle.plantext.specs.declared.Reading.{Reading}
-use Rattle.plantext.specs.Text.{beginning, onward, numbersBefore, atFault, digitRead, numberRead, spaceRead, lineRead, wholeLine, newlineRead, sound, isDigit, isNewline, byteRead, textRead, closing, wholeRead}
-use Rattle.plantext.specs.Form.{Digits, none, more, Number, Numbers, one, and, Lines, start, panel, PlanForm, whole, unended, ReadsOnly}
+use Rattle.plantext.specs.Text.{beginning, numbersBefore, atFault, digitRead, spaceRead, wholeLine, newlineRead, sound, isDigit, isNewline, byteRead, textRead}
+use Rattle.plantext.specs.Form.{Digits, none, more, Number, Numbers, one, and, Lines, start, panel, whole, unended, ReadsOnly}
 use Rattle.plantext.proofs.Faults.{byte-behind, stays-faulty}
 use Rattle.plantext.proofs.LastLine.{onward-up}
 

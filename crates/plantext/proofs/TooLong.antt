@@ -1,20 +1,17 @@
--- More panels than a plan may have are refused. Assumes nothing.
-use Prim.Native.Nat.{ℕ, _+_, _*_, _/_, _%_, _≤_, _<_, min}
-use mathlib.Core.Bool.{Bool, true, false, _&&_}
+-- More than 256 panels are refused. Assumes nothing.
+use Prim.Native.Nat.{ℕ, _/_, _<_, min}
 use mathlib.Core.List.{List}
-use mathlib.Core.Path.{_≡_, refl}
+use mathlib.Core.Path.{_≡_}
 use native.Mathlib.Omega.{arith}
-use lib.Dec.{eqb}
 use lib.ListN.{length, take, length-take}
 use Rattle.ground.proofs.Bools.{by-cases}
 use Rattle.ground.proofs.Walks.{both}
 use Rattle.ground.specs.Lists.{all}
-use Rattle.rehearsal.specs.Plan.{panelsOf, panelOk, planOk}
+use Rattle.rehearsal.specs.Plan.{panelsOf, panelOk}
 use Rattle.rehearsal.specs.Rehearsal.{refusal, isPlan, rehearsalOf}
 use Rattle.rehearsal.proofs.Panels.{shapeOk, shape-then-panels, shape-small}
-use Rattle.plantext.specs.declared.Reading.{Reading}
-use Rattle.plantext.specs.Text.{panelsRead, numbersLent}
-use Rattle.plantext.specs.Form.{TooLongRefused}
+use Rattle.plantext.specs.Text.{numbersLent}
+use Rattle.plantext.specs.Statements.{TooLongRefused}
 
 -- numbers of more than 256 panels are no plan
 no-plan : (numbers : List ℕ) (start : ℕ) → 256 < length numbers / 4 → rehearsalOf numbers start ≡ refusal

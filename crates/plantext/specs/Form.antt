@@ -1,12 +1,11 @@
--- The form of a plan's text, said without the reader: no other text is read without a fault. The theorem is in proofs/Form.
-use Prim.Native.Nat.{ℕ, _+_, _*_, _/_, _≤_, _<_}
+-- The form of a plan's text, said without the reader: such a text is read without a fault, and no other is. The theorems are in
+-- proofs/Form and proofs/Formed.
+use Prim.Native.Nat.{ℕ, _+_, _*_, _≤_}
 use mathlib.Core.Path.{_≡_}
 use mathlib.Core.List.{List, [], _∷_, _++_}
-use lib.ListN.{length, take}
+use lib.ListN.{length}
 use Rattle.printout.specs.Line.{digit, space, newline}
-use Rattle.rehearsal.specs.Rehearsal.{refusal, rehearsalOf}
-use Rattle.plantext.specs.declared.Reading.{Reading}
-use Rattle.plantext.specs.Text.{wholeRead, panelsRead, numbersLent}
+use Rattle.plantext.specs.Text.{wholeRead}
 
 -- decimal digits, bytes 48 to 57, with their value; zeros may lead
 pub data Digits : ℕ → List ℕ → Type 0 where
@@ -41,11 +40,3 @@ ReadsOnly = (text : List ℕ) → wholeRead text .fault ≡ 0 → PlanForm text
 -- And a text of this form is read without one.
 abbrev pub ReadsAll : Type 0
 ReadsAll = (text : List ℕ) → PlanForm text → wholeRead text .fault ≡ 0
-
--- More panels than a plan may have are refused, also where some found no room, if there is room for one too many.
-abbrev pub TooLongRefused : Type 0
-TooLongRefused =
-    (r : Reading) (plan : List ℕ) (start : ℕ)
-    → 1028 ≤ length plan
-    → 256 < panelsRead r
-    → rehearsalOf (take (numbersLent r (length plan)) plan) start ≡ refusal

@@ -1,4 +1,4 @@
--- What reading a text promises. The theorems are in proofs/ReadBack, proofs/Faults and proofs/LastLine.
+-- What reading a text promises. The theorems are in proofs/ReadBack, proofs/Faults, proofs/LastLine and proofs/TooLong.
 use Prim.Native.Nat.{ℕ, suc, _+_, _*_, _^_, _≤_, _<_}
 use mathlib.Core.Path.{_≡_}
 use mathlib.Core.Bool.{Bool, _&&_}
@@ -10,6 +10,7 @@ use Rattle.ground.specs.Lists.{all}
 use Rattle.printout.specs.Line.{decimal, space, newline}
 use Rattle.rehearsal.specs.declared.Panel.{Panel}
 use Rattle.rehearsal.specs.Plan.{panelsOf}
+use Rattle.rehearsal.specs.Rehearsal.{refusal, rehearsalOf}
 use Rattle.plantext.specs.declared.Reading.{Reading}
 use Rattle.plantext.specs.Text.{beginning, isNewline, markByte, packed, textRead, planAfter, closing, wholeRead, wholePlan, panelsRead, numbersLent}
 
@@ -96,3 +97,11 @@ panelRead p = record { cfu = p .cfu; cfb = p .cfb; cfnr = p .cfnr; busy = markBy
 -- The numbers that are lent are the panels that were written down.
 abbrev pub PanelsBack : Type 0
 PanelsBack = (rows : List Row) → panelsOf (numbersOf rows) ≡ map panelRead rows
+
+-- More than 256 panels are refused, also where some found no room: it is enough that there is room for 257.
+abbrev pub TooLongRefused : Type 0
+TooLongRefused =
+    (r : Reading) (plan : List ℕ) (start : ℕ)
+    → 1028 ≤ length plan
+    → 256 < panelsRead r
+    → rehearsalOf (take (numbersLent r (length plan)) plan) start ≡ refusal
