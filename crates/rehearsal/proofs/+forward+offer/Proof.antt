@@ -42,182 +42,16 @@ offer-at t = and 1 offer-kinds.ps (cycle.is 1 offer-kinds.ps μ-offer t) offer.P
 abbrev offer-below : ℕ → In 1 offer-kinds.ps
 offer-below t = and 1 offer-kinds.ps (falls 1 offer-kinds.ps _<_ μ-offer t) offer.Pre
 
-forward-end-at-requires : (t : ℕ) → forward-lts.Need-end-at-requires (
-  end-at-reads.Asked,
-  end-at-reads.Learnt,
-  offer-below t,
-  offer.Post,
-) (forward-at t) forward.Post
-forward-end-at-requires t c κs = search needs
-
-forward-returns : (t : ℕ) → forward-lts.Need-returns (
-  end-at-reads.Asked,
-  end-at-reads.Learnt,
-  offer-below t,
-  offer.Post,
-) (forward-at t) forward.Post
-forward-returns t c = is _ 0 _ _ _ (c .before .if1 .taken) (c .end-at .ensures)
-
-forward-sub-offer : (t : ℕ) → forward-lts.Need-sub-offer (
-  end-at-reads.Asked,
-  end-at-reads.Learnt,
-  offer-below t,
-  offer.Post,
-) (forward-at t) forward.Post
-forward-sub-offer t c = search needs
-
-forward-add-offer : (t : ℕ) → forward-lts.Need-add-offer (
-  end-at-reads.Asked,
-  end-at-reads.Learnt,
-  offer-below t,
-  offer.Post,
-) (forward-at t) forward.Post
-forward-add-offer t c = search needs
-
-forward-offer-requires : (t : ℕ) → forward-lts.Need-offer-requires (
-  end-at-reads.Asked,
-  end-at-reads.Learnt,
-  offer-below t,
-  offer.Post,
-) (forward-at t) forward.Post
-forward-offer-requires t c κs = search needs
-
-forward-returns-2 : (t : ℕ) → forward-lts.Need-returns-2 (
-  end-at-reads.Asked,
-  end-at-reads.Learnt,
-  offer-below t,
-  offer.Post,
-) (forward-at t) forward.Post
-forward-returns-2 t c = isnt _ 0 _ _ _ (c .before .if1 .left) (c .offer .ensures)
-
-offer-panel-at-requires : (t : ℕ) → offer-lts.Need-panel-at-requires (
-  panel-at-reads.Asked,
-  panel-at-reads.Learnt,
-  forwards-to-reads.Asked,
-  forwards-to-reads.Learnt,
-  kept-as-reads.Asked,
-  kept-as-reads.Learnt,
-  end-at-reads.Asked,
-  end-at-reads.Learnt,
-  forward-below t,
-  forward.Post,
-) (offer-at t) offer.Post
-offer-panel-at-requires t c κs = search needs
-
-offer-forwards-to-requires : (t : ℕ) → offer-lts.Need-forwards-to-requires (
-  panel-at-reads.Asked,
-  panel-at-reads.Learnt,
-  forwards-to-reads.Asked,
-  forwards-to-reads.Learnt,
-  kept-as-reads.Asked,
-  kept-as-reads.Learnt,
-  end-at-reads.Asked,
-  end-at-reads.Learnt,
-  forward-below t,
-  forward.Post,
-) (offer-at t) offer.Post
-offer-forwards-to-requires t c κs = search needs
-
-offer-kept-as-requires : (t : ℕ) → offer-lts.Need-kept-as-requires (
-  panel-at-reads.Asked,
-  panel-at-reads.Learnt,
-  forwards-to-reads.Asked,
-  forwards-to-reads.Learnt,
-  kept-as-reads.Asked,
-  kept-as-reads.Learnt,
-  end-at-reads.Asked,
-  end-at-reads.Learnt,
-  forward-below t,
-  forward.Post,
-) (offer-at t) offer.Post
-offer-kept-as-requires t c κs = search needs
-
-offer-end-at-requires : (t : ℕ) → offer-lts.Need-end-at-requires (
-  panel-at-reads.Asked,
-  panel-at-reads.Learnt,
-  forwards-to-reads.Asked,
-  forwards-to-reads.Learnt,
-  kept-as-reads.Asked,
-  kept-as-reads.Learnt,
-  end-at-reads.Asked,
-  end-at-reads.Learnt,
-  forward-below t,
-  forward.Post,
-) (offer-at t) offer.Post
-offer-end-at-requires t c κs = search needs
-
-offer-returns : (t : ℕ) → offer-lts.Need-returns (
-  panel-at-reads.Asked,
-  panel-at-reads.Learnt,
-  forwards-to-reads.Asked,
-  forwards-to-reads.Learnt,
-  kept-as-reads.Asked,
-  kept-as-reads.Learnt,
-  end-at-reads.Asked,
-  end-at-reads.Learnt,
-  forward-below t,
-  forward.Post,
-) (offer-at t) offer.Post
-unfolding next
-offer-returns t c =
-    let a = c .before .before .before .before .before .before .args in
-    let plan = panelsOf (a .plan .now) in
-    let found = c .before .before .before .before .panel-at .ensures in
-    let stays : next plan (a .at) ≡ 0 =
-    sym (ap forwardsTo found) ∙ sym (c .before .before .before .forwards-to .ensures) ∙ c .before .before .if1 .taken in
-    c .end-at .ensures
-    ∙ ap (λ (k : ℕ). ended (a .at) k (a .counter)) (c .before .kept-as .ensures ∙ ap keptAs found)
-    ∙ kept-here plan (a .at) (a .left) (a .counter) stays
-
-offer-forward-requires : (t : ℕ) → offer-lts.Need-forward-requires (
-  panel-at-reads.Asked,
-  panel-at-reads.Learnt,
-  forwards-to-reads.Asked,
-  forwards-to-reads.Learnt,
-  kept-as-reads.Asked,
-  kept-as-reads.Learnt,
-  end-at-reads.Asked,
-  end-at-reads.Learnt,
-  forward-below t,
-  forward.Post,
-) (offer-at t) offer.Post
-offer-forward-requires t c κs = search needs
-
-offer-returns-2 : (t : ℕ) → offer-lts.Need-returns-2 (
-  panel-at-reads.Asked,
-  panel-at-reads.Learnt,
-  forwards-to-reads.Asked,
-  forwards-to-reads.Learnt,
-  kept-as-reads.Asked,
-  kept-as-reads.Learnt,
-  end-at-reads.Asked,
-  end-at-reads.Learnt,
-  forward-below t,
-  forward.Post,
-) (offer-at t) offer.Post
-unfolding next
-offer-returns-2 t c =
-    let a = c .before .before .before .before .before .args in
-    let plan = panelsOf (a .plan .now) in
-    let to : c .before .before .forwards-to .result ≡ next plan (a .at) =
-    c .before .before .forwards-to .ensures ∙ ap forwardsTo (c .before .before .before .panel-at .ensures) in
-    c .forward .ensures ∙ forwarded-on plan (a .at) _ (a .left) (a .counter) to (c .before .if1 .left)
-
 pub +forward+offer-spec : {M : Type 1} → statement M
-+forward+offer-spec = close μ-forward μ-offer (λ t. forward-lts.spec (
-  end-at-reads.Asked,
-  end-at-reads.Learnt,
-  offer-below t,
-  offer.Post,
-)
-    (forward-at t)
-    forward.Post
-    (forward-end-at-requires t)
-    (forward-returns t)
-    (forward-sub-offer t)
-    (forward-add-offer t)
-    (forward-offer-requires t)
-    (forward-returns-2 t))
+unfolding next
++forward+offer-spec = close μ-forward μ-offer
+    (λ t. forward-lts.spec (end-at-reads.Asked, end-at-reads.Learnt, offer-below t, offer.Post) (forward-at t) forward.Post
+    (λ c κs. search needs)
+    (λ c. is _ 0 _ _ _ (c .before .if1 .taken) (c .end-at .ensures))
+    (λ c. search needs)
+    (λ c. search needs)
+    (λ c κs. search needs)
+    (λ c. isnt _ 0 _ _ _ (c .before .if1 .left) (c .offer .ensures)))
     λ t. offer-lts.spec (
       panel-at-reads.Asked,
       panel-at-reads.Learnt,
@@ -232,10 +66,23 @@ pub +forward+offer-spec : {M : Type 1} → statement M
     )
     (offer-at t)
     offer.Post
-    (offer-panel-at-requires t)
-    (offer-forwards-to-requires t)
-    (offer-kept-as-requires t)
-    (offer-end-at-requires t)
-    (offer-returns t)
-    (offer-forward-requires t)
-    (offer-returns-2 t)
+    (λ c κs. search needs)
+    (λ c κs. search needs)
+    (λ c κs. search needs)
+    (λ c κs. search needs)
+    (λ c.
+    let a = c .before .before .before .before .before .before .args in
+    let plan = panelsOf (a .plan .now) in
+    let found = c .before .before .before .before .panel-at .ensures in
+    let stays : next plan (a .at) ≡ 0 =
+    sym (ap forwardsTo found) ∙ sym (c .before .before .before .forwards-to .ensures) ∙ c .before .before .if1 .taken in
+    c .end-at .ensures
+    ∙ ap (λ (k : ℕ). ended (a .at) k (a .counter)) (c .before .kept-as .ensures ∙ ap keptAs found)
+    ∙ kept-here plan (a .at) (a .left) (a .counter) stays)
+    (λ c κs. search needs)
+    (λ c.
+    let a = c .before .before .before .before .before .args in
+    let plan = panelsOf (a .plan .now) in
+    let to : c .before .before .forwards-to .result ≡ next plan (a .at) =
+    c .before .before .forwards-to .ensures ∙ ap forwardsTo (c .before .before .before .panel-at .ensures) in
+    c .forward .ensures ∙ forwarded-on plan (a .at) _ (a .left) (a .counter) to (c .before .if1 .left))
