@@ -11,7 +11,9 @@
  *   W event                     replies one byte: well made
  *   F limit                     replies whipsail_made
  *   S                           replies whipsail_station
- *   R count place bytes         replies whipsail_read */
+ *   R count place bytes         replies whipsail_read
+ *   P count from len start number.. lends len of the count numbers as a plan;
+ *                               replies whipsail_rehearsed and all numbers */
 #include <stdio.h>
 #include <stdlib.h>
 #include <string.h>
@@ -91,6 +93,23 @@ static void read_event(void) {
     give(&found, sizeof found);
 }
 
+/* The numbers lie by themselves in memory, so that they are aligned. */
+static void rehearse(void) {
+    size_t all = count(), from = count(), len = count();
+    uint16_t start;
+    take(&start, sizeof start);
+    if (all > (size_t)(end - at) / sizeof start || from > all || len > all - from)
+        stop("more numbers than there are");
+    uint16_t *numbers = malloc(all * sizeof *numbers + 1);
+    if (numbers == NULL)
+        stop("no memory");
+    take(numbers, all * sizeof *numbers);
+    whipsail_rehearsed told = whipsail_rehearse(numbers + from, len, start);
+    give(&told, sizeof told);
+    give(numbers, all * sizeof *numbers);
+    free(numbers);
+}
+
 static void well_made(void) {
     uint8_t good = whipsail_well_made(event());
     give(&good, 1);
@@ -120,6 +139,7 @@ static void command(whipsail_board *board) {
     case 'F': fresh(); break;
     case 'S': fresh_short(); break;
     case 'R': read_event(); break;
+    case 'P': rehearse(); break;
     default: stop("an unknown command");
     }
 }

@@ -79,7 +79,7 @@ enum {
     WHIPSAIL_NOT_SOUND = 1,        /* the table is empty, too long or not sound, or the limit not 1 to 15: lend the
                                       records as they were left, or start again with zeroed ones and a fresh station */
     WHIPSAIL_TIME_BEFORE = 2,      /* its time is before that of the last done event: keep to the order of times */
-    WHIPSAIL_NOT_WELL_MADE = 3,    /* its kind or a field (of whipsail_fresh: the limit): correct what makes it */
+    WHIPSAIL_NOT_WELL_MADE = 3,    /* its kind or a field (or a limit, a plan or its start): correct what makes it */
     WHIPSAIL_NO_SUCH_CALL = 4,     /* past the table's end, free, or of the other direction: look up the record */
     WHIPSAIL_NOT_IN_STATE = 5,     /* the call's state does not take it, as a result with no request open: drop it */
     WHIPSAIL_OTHER_IDENTIFIER = 6, /* a result or error, and the open request has another identifier: drop it */
@@ -215,6 +215,35 @@ whipsail_told whipsail_lent_step(whipsail_call *table, size_t len, whipsail_inpu
 /* Whether kind and fields are as the table of kinds says: if not, a step
  * refuses the event with 3. */
 bool whipsail_well_made(whipsail_event event);
+
+/* ---- Who will ring tonight? A plan of forwardings, rehearsed without a call. */
+
+/* A plan has 1 to 256 panels, whose numbers are their places from 1, and four
+ * numbers for each: cfu, cfb and cfnr (a panel's number, or 0 for none), and the
+ * marks, 0 or 1 each: busy in the low byte, unattended in the high one. */
+#define WHIPSAIL_PANELS 256
+#define WHIPSAIL_MARKS(busy, unattended) ((uint16_t)(((busy) ? 1 : 0) | ((unattended) ? 256 : 0)))
+
+/* How a rehearsed call ends; AT_LIMIT where one more forward would exceed the limit
+ * of whipsail_fresh_short, as in any circle. */
+enum { WHIPSAIL_RINGS = 1, WHIPSAIL_BUSY = 2, WHIPSAIL_AT_LIMIT = 3 };
+
+/* `code` is WHIPSAIL_DONE, or WHIPSAIL_NOT_WELL_MADE: then ending and last are 0,
+ * and the counter is 255, as 0 is one. */
+typedef struct whipsail_rehearsed {
+    uint8_t code;
+    uint8_t ending;
+    uint16_t last;   /* number of the panel where it ends */
+    uint8_t counter; /* how often it was forwarded */
+} whipsail_rehearsed;
+
+/* Where a call ends that the panel `start` is offered first. A panel forwards it to
+ * its cfu; else, if busy, to its cfb, and with none is busy; else, if unattended, to
+ * its cfnr; else it rings. Refused are: a count of numbers that is not four for each
+ * of 1 to 256 panels; a start outside the plan, 0 too; a destination outside it,
+ * reached or not; a mark above 1. `plan` is not null, also where `numbers` is 0, is
+ * aligned to 2, and is only read. */
+whipsail_rehearsed whipsail_rehearse(const uint16_t *plan, size_t numbers, uint16_t start);
 
 /* ---- For files of events, and for tables by value. A panel needs none of this. */
 

@@ -41,6 +41,8 @@
     AT(told, answer, 0) AT(told, station, 64)                                                                          \
     SIZE(made, 24)                                                                                                     \
     AT(made, code, 0) AT(made, station, 8)                                                                             \
+    SIZE(rehearsed, 6)                                                                                                 \
+    AT(rehearsed, code, 0) AT(rehearsed, ending, 1) AT(rehearsed, last, 2) AT(rehearsed, counter, 4)                   \
     SIZE(read, 32)                                                                                                     \
     AT(read, whole, 0) AT(read, event, 8)                                                                              \
     SIZE(board, 2584)                                                                                                  \

@@ -13,7 +13,7 @@ use call::Sent;
 use station::Answer;
 
 // One byte.
-fn put(out: &mut [u8], at: usize, byte: u8) -> usize
+pub fn put(out: &mut [u8], at: usize, byte: u8) -> usize
     requires { ⌜ at < length (now out) ⌝ }
     ensures { λ r. ⌜ Written (byte ∷ []) at (now (out .entry)) (now (out .exit)) r ⌝ }
 {
@@ -32,7 +32,7 @@ fn put_pair(out: &mut [u8], at: usize, n: u64) -> usize
 }
 
 // A number in decimal, two digits at a time.
-fn write_decimal(out: &mut [u8], at: usize, n: u64) -> usize
+pub fn write_decimal(out: &mut [u8], at: usize, n: u64) -> usize
     requires { ⌜ at + 20 ≤ length (now out) ⌝ }
     ensures { λ r. ⌜ Written (decimal n) at (now (out .entry)) (now (out .exit)) r ⌝ }
 {

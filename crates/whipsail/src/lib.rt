@@ -3,6 +3,7 @@ ghost use mathlib.Core.Path.{_≡_};
 ghost use Prim.Native.Nat.{ℕ};
 ghost use Rattle.event.specs.WellMade.{wellMade};
 ghost use Rattle.station.specs.Station.{freshOf, shortForm};
+ghost use Rattle.rehearsal.specs.Rehearsal.{rehearsalOf};
 ghost use Rattle.engine.specs.Board.{stepBoard};
 ghost use Rattle.runs.specs.Run.{runBoard};
 ghost use Rattle.whipsail.specs.Lent.{toldOf, tableAfter};
@@ -13,6 +14,7 @@ use decide::Told;
 use engine::Board;
 use engine::Stepped;
 use event::Event;
+use rehearsal::Rehearsed;
 use runs::Ran;
 use station::Made;
 use station::Station;
@@ -117,4 +119,12 @@ pub extern "C" fn whipsail_run(b: Board, events: &[u8]) -> Ran
     ensures { λ r. ⌜ r ≡ runBoard b (now (events .entry)) ⌝ }
 {
     runs::run(b, events)
+}
+
+// Who rings if a call is offered to this panel of the plan first: four numbers for each panel.
+#[no_mangle]
+pub extern "C" fn whipsail_rehearse(plan: &[u16], start: u16) -> Rehearsed
+    ensures { λ r. ⌜ r ≡ rehearsalOf (now (plan .entry)) start ⌝ }
+{
+    rehearsal::rehearse(plan, start)
 }

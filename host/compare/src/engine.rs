@@ -1,10 +1,12 @@
 //! The library, behind the C program that serves it (`host/c/serve.c`).
 
 use crate::memory::{self, Reader};
+use crate::plans;
 use crate::tables::{Laid, Told};
 use crate::wire::{Board, Ran, Stepped};
 use model::{Event, Station};
 use std::io::{Read, Write};
+use std::ops::Range;
 use std::path::{Path, PathBuf};
 use std::process::{Child, ChildStdin, ChildStdout, Command, Stdio};
 
@@ -131,11 +133,7 @@ impl Engine {
     pub fn lend(&mut self, cases: &[Laid]) -> Vec<Told> {
         let mut commands = Vec::new();
         for laid in cases {
-            let place = laid.lent();
-            commands.push(b'L');
-            for count in [laid.before.len(), place.start, place.len()] {
-                commands.extend((count as u64).to_le_bytes());
-            }
+            put_lent(&mut commands, b'L', laid.before.len(), laid.lent());
             memory::put_station(&mut commands, &laid.station);
             memory::put_event(&mut commands, &laid.event);
             commands.extend(laid.before.iter().flatten());
@@ -146,6 +144,25 @@ impl Engine {
         cases
             .iter()
             .map(|laid| reader.told(laid.before.len()))
+            .collect()
+    }
+
+    /// Lends each plan.
+    pub fn rehearse(&mut self, cases: &[plans::Laid]) -> Vec<plans::Told> {
+        let mut commands = Vec::new();
+        for laid in cases {
+            put_lent(&mut commands, b'P', laid.before.len(), laid.lent());
+            memory::twos(&mut commands, &[laid.start]);
+            memory::twos(&mut commands, &laid.before);
+        }
+        let sizes = cases
+            .iter()
+            .map(|laid| memory::rehearsed(laid.before.len()));
+        let reply = self.ask(&commands, sizes.sum());
+        let mut reader = Reader(&reply);
+        cases
+            .iter()
+            .map(|laid| reader.rehearsed(laid.before.len()))
             .collect()
     }
 
@@ -173,6 +190,14 @@ impl Engine {
         commands.extend(place.to_le_bytes());
         commands.extend(bytes);
         Reader(&self.ask(&commands, memory::READ)).read()
+    }
+}
+
+/// A command that lends a part of what follows it.
+fn put_lent(commands: &mut Vec<u8>, letter: u8, all: usize, place: Range<usize>) {
+    commands.push(letter);
+    for count in [all, place.start, place.len()] {
+        commands.extend((count as u64).to_le_bytes());
     }
 }
 

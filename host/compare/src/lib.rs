@@ -1,12 +1,14 @@
 //! Runs the proved engine and the model side by side, event by event, and
 //! compares all that an event leaves: every field of the answer, of every
-//! record, of the station, and the part of the array that is not lent.
+//! record, of the station, and the part of the array that is not lent. Plans are
+//! compared by what is told of them.
 #![forbid(unsafe_code)]
 
 pub mod check;
 pub mod engine;
 pub mod hostile;
 pub mod memory;
+pub mod plans;
 pub mod tables;
 pub mod wire;
 pub mod wrapped;

@@ -1,7 +1,7 @@
 //! How the library's structs lie in memory (`whipsail.h`), little-endian.
 
-use crate::tables::Told;
-use crate::wire::{Answer, Board, Message, Ran, Stepped};
+use crate::wire::{Answer, Board, Message, Ran, Rehearsed, Stepped};
+use crate::{plans, tables::Told};
 use model::codes::MOST_RECORDS;
 use model::{Event, Record, Station};
 
@@ -15,16 +15,22 @@ pub const MADE: usize = 24;
 pub const READ: usize = 32;
 pub const RAN: usize = 2608;
 pub const ANSWER: usize = 64;
+pub const REHEARSED: usize = 6;
 
 /// Of `whipsail_told` and so many records behind it.
 pub fn told(records: usize) -> usize {
     ANSWER + STATION + records * CALL
 }
 
+/// Of `whipsail_rehearsed` and so many numbers behind it.
+pub fn rehearsed(numbers: usize) -> usize {
+    REHEARSED + numbers * 2
+}
+
 /// Stands in padding, which nobody may read.
 const PADDING: u8 = 0xEE;
 
-fn twos(out: &mut Vec<u8>, values: &[u16]) {
+pub fn twos(out: &mut Vec<u8>, values: &[u16]) {
     out.extend(values.iter().flat_map(|value| value.to_le_bytes()));
 }
 
@@ -239,6 +245,21 @@ impl Reader<'_> {
             answer: self.answer(),
             station: self.station(),
             after: (0..records).map(|_| self.take()).collect(),
+        }
+    }
+
+    /// What a plan told, and so many numbers as they lie.
+    pub fn rehearsed(&mut self, numbers: usize) -> plans::Told {
+        let answer = Rehearsed {
+            code: self.one(),
+            ending: self.one(),
+            last: self.two(),
+            counter: self.one(),
+        };
+        self.skip(1);
+        plans::Told {
+            answer,
+            after: (0..numbers).map(|_| self.two()).collect(),
         }
     }
 }

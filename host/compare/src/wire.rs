@@ -2,6 +2,7 @@
 //! it. Stations, events and records are the model's own.
 
 use model::codes::MOST_RECORDS;
+use model::plan::Ending;
 use model::{Record, Station};
 
 /// The station, the lent length and the array of which the first are lent.
@@ -53,6 +54,15 @@ pub struct Ran {
     pub refused: u64,
     pub cut: u64,
     pub board: Board,
+}
+
+/// What the library hands back of a plan.
+#[derive(Clone, Copy, Debug, PartialEq, Eq)]
+pub struct Rehearsed {
+    pub code: u8,
+    pub ending: u8,
+    pub last: u16,
+    pub counter: u8,
 }
 
 impl Board {
@@ -123,6 +133,29 @@ impl From<&model::Answer> for Answer {
             number: answer.number.unwrap_or(0),
             identifier: answer.identifier.map_or(65_536, u32::from),
             counter: answer.counter.unwrap_or(0),
+        }
+    }
+}
+
+impl From<&Result<model::plan::Rehearsed, u8>> for Rehearsed {
+    fn from(answer: &Result<model::plan::Rehearsed, u8>) -> Rehearsed {
+        match answer {
+            Ok(done) => Rehearsed {
+                code: 0,
+                ending: match done.ending {
+                    Ending::Rings => 1,
+                    Ending::Busy => 2,
+                    Ending::Limit => 3,
+                },
+                last: done.last,
+                counter: done.counter,
+            },
+            Err(code) => Rehearsed {
+                code: *code,
+                ending: 0,
+                last: 0,
+                counter: 255,
+            },
         }
     }
 }

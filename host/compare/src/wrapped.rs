@@ -1,9 +1,11 @@
 //! The Rust wrapper's typed values as the plain ones that are compared.
 
+use crate::plans;
 use crate::tables::{Laid, Told};
-use crate::wire::{Answer, Message};
+use crate::wire::{Answer, Message, Rehearsed};
 use model::Station;
-use whipsail::{Call, Event, Leg, Number, Refusal};
+use std::hint::black_box;
+use whipsail::{Call, Event, Leg, Number, Panel, Plan, Refusal, Rehearsal};
 
 /// Lends the table by the wrapper, in this process.
 pub fn lend(laid: &Laid) -> Told {
@@ -16,6 +18,46 @@ pub fn lend(laid: &Laid) -> Told {
         answer: answer(told),
         station: plain(&station),
         after: calls.iter().map(Call::to_bytes).collect(),
+    }
+}
+
+/// Lends the plan by the wrapper, in this process.
+pub fn rehearse(laid: &plans::Laid) -> plans::Told {
+    // The compiler may take a shared slice as unchanged: it forgets what it knows.
+    let numbers = black_box(laid.before.clone());
+    let told = Plan::of_numbers(&numbers[laid.lent()]).rehearse(laid.start);
+    plans::Told {
+        answer: rehearsed(told),
+        after: black_box(numbers),
+    }
+}
+
+/// The same by the wrapper's panels; none where a mark is above 1.
+pub fn rehearse_typed(panels: &[model::plan::Panel], start: u16) -> Option<Rehearsed> {
+    let typed = |panel: &model::plan::Panel| {
+        let known = panel.busy <= 1 && panel.unattended <= 1;
+        let typed = Panel {
+            cfu: Number::new(panel.cfu),
+            cfb: Number::new(panel.cfb),
+            cfnr: Number::new(panel.cfnr),
+            busy: panel.busy == 1,
+            unattended: panel.unattended == 1,
+        };
+        known.then_some(typed.numbers())
+    };
+    let panels: Option<Vec<[u16; 4]>> = panels.iter().map(typed).collect();
+    Some(rehearsed(Plan::new(&panels?).rehearse(start)))
+}
+
+fn rehearsed(told: Result<Rehearsal, Refusal>) -> Rehearsed {
+    match told {
+        Ok(told) => Rehearsed {
+            code: 0,
+            ending: told.ending.number(),
+            last: told.last.get(),
+            counter: told.counter,
+        },
+        Err(refusal) => Rehearsed::from(&Err(refusal.number())),
     }
 }
 

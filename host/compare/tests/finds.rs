@@ -4,8 +4,9 @@
 
 use compare::check::{Comparison, Reference};
 use compare::tables::{report, Laid};
-use compare::{hostile, wrapped, Archive, Board};
+use compare::{hostile, plans, wrapped, Archive, Board};
 use model::codes::*;
+use model::plan::{rehearse, Ending, Panel, Rehearsed};
 use model::profile::Profile;
 use model::random::Random;
 use model::{step, Answer, Event, Record, Station};
@@ -142,5 +143,91 @@ fn one_byte_around_a_lent_table() {
         let mut touched = told.clone();
         touched.after[at][29] ^= 1;
         assert!(laid.fault(&touched, &step).is_some());
+    }
+}
+
+/// Rehearses plans until the difference is found; the one that is said has at
+/// most that many panels.
+fn found_by_a_plan(wrong: &plans::Reference, most: usize) {
+    let mut random = Random::new(6);
+    let laid = (0..10_000)
+        .map(|_| plans::Laid::new(model::plans::any(&mut random)))
+        .find(|laid| laid.fault(&wrapped::rehearse(laid), wrong).is_some())
+        .expect("a wrong model is found");
+    let said = plans::report(&laid, wrong, wrapped::rehearse);
+    let panels = said
+        .lines()
+        .skip(1)
+        .take_while(|line| !line.starts_with("the model"));
+    assert!((1..=most).contains(&panels.count()), "{said}");
+}
+
+/// A wrong model that takes each panel for another one.
+fn taken_for(panels: &[Panel], start: u16, other: fn(Panel) -> Panel) -> Result<Rehearsed, u8> {
+    let panels: Vec<Panel> = panels.iter().map(|&panel| other(panel)).collect();
+    rehearse(&panels, start)
+}
+
+#[test]
+fn a_busy_panel_without_cfb_that_goes_on_to_cfnr() {
+    let other = |panel: Panel| Panel {
+        busy: panel.busy * u16::from(panel.cfb != 0),
+        ..panel
+    };
+    found_by_a_plan(&move |panels, start| taken_for(panels, start, other), 2);
+}
+
+#[test]
+fn cfb_before_cfu() {
+    let other = |panel: Panel| match panel.busy == 1 && panel.cfb != 0 {
+        true => Panel { cfu: 0, ..panel },
+        false => panel,
+    };
+    found_by_a_plan(&move |panels, start| taken_for(panels, start, other), 4);
+}
+
+#[test]
+fn a_destination_outside_that_is_not_reached() {
+    let wrong = |panels: &[Panel], start: u16| {
+        let mut panels = panels.to_vec();
+        let count = panels.len();
+        for panel in panels.iter_mut().filter(|panel| panel.busy == 0) {
+            panel.cfb *= u16::from(usize::from(panel.cfb) <= count);
+        }
+        rehearse(&panels, start)
+    };
+    found_by_a_plan(&wrong, 1);
+}
+
+#[test]
+fn a_limit_of_forwards_one_early() {
+    let early = Station::short().limit - 1;
+    let wrong = move |panels: &[Panel], start: u16| {
+        let done = rehearse(panels, start)?;
+        Ok(match done.way.get(usize::from(early)) {
+            None => done,
+            Some(&(last, _)) => Rehearsed {
+                last,
+                ending: Ending::Limit,
+                counter: early,
+                way: done.way[..usize::from(early)].to_vec(),
+            },
+        })
+    };
+    found_by_a_plan(&wrong, usize::from(early) + 2);
+}
+
+#[test]
+fn one_number_in_or_around_a_plan() {
+    let laid = plans::Laid::new(model::plans::of(
+        model::plans::Sort::Full,
+        &mut Random::new(7),
+    ));
+    let told = wrapped::rehearse(&laid);
+    assert_eq!(laid.fault(&told, &rehearse), None);
+    for at in [0, 3, 600, told.after.len() - 4, told.after.len() - 1] {
+        let mut touched = told.clone();
+        touched.after[at] ^= 0x0100;
+        assert!(laid.fault(&touched, &rehearse).is_some());
     }
 }

@@ -12,6 +12,8 @@ pub mod lent;
 pub mod notice;
 pub mod outgoing;
 pub mod panel;
+pub mod plan;
+pub mod plans;
 pub mod profile;
 pub mod random;
 pub mod record;

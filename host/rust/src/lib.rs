@@ -22,6 +22,8 @@
 //! # }
 //! ```
 //!
+//! A [`Plan`] of forwardings can be rehearsed without a call: which panel rings?
+//!
 //! Nothing is allocated, and neither `std` nor any other crate is needed.
 #![no_std]
 #![deny(unsafe_op_in_unsafe_fn)]
@@ -34,6 +36,7 @@ mod call;
 mod code;
 mod event;
 mod kinds;
+mod plan;
 mod raw;
 mod refusal;
 mod station;
@@ -44,6 +47,7 @@ pub use answer::{Answer, Message};
 pub use call::{Call, Request};
 pub use code::{Basic, Choice, Direction, Leg, Reason};
 pub use event::{Dli3, Event, Kind, Received};
+pub use plan::{Ending, Panel, Plan, Rehearsal};
 pub use refusal::Refusal;
 pub use station::Station;
 
@@ -52,3 +56,6 @@ pub type Number = core::num::NonZeroU16;
 
 /// The most records that a table may have.
 pub const MOST_RECORDS: usize = 64;
+
+/// The most panels that a plan may have.
+pub const MOST_PANELS: usize = 256;

@@ -73,8 +73,16 @@ struct Read {
     event: Event,
 }
 
+#[repr(C)]
+pub struct Rehearsed {
+    pub code: u8,
+    pub ending: u8,
+    pub last: u16,
+    pub counter: u8,
+}
+
 mod library {
-    use super::{Call, Event, Input, Made, Read, Station, Told};
+    use super::{Call, Event, Input, Made, Read, Rehearsed, Station, Told};
 
     extern "C" {
         pub fn whipsail_fresh(limit: u8) -> Made;
@@ -82,6 +90,7 @@ mod library {
         pub fn whipsail_lent_step(table: *mut Call, len: usize, input: Input) -> Told;
         pub fn whipsail_event_at(bytes: *const u8, len: usize, place: usize) -> Read;
         pub fn whipsail_well_made(event: Event) -> bool;
+        pub fn whipsail_rehearse(plan: *const u16, numbers: usize, start: u16) -> Rehearsed;
     }
 }
 
@@ -111,6 +120,13 @@ pub fn event_of(bytes: &[u8; 24]) -> Event {
 pub fn well_made(event: Event) -> bool {
     // SAFETY: takes any event.
     unsafe { library::whipsail_well_made(event) }
+}
+
+pub fn rehearse(plan: &[u16], start: u16) -> Rehearsed {
+    // SAFETY: the pointer is a slice's, so aligned, not null, and good for the
+    // slice's length, also where that is 0; it is only read, and not kept. Any
+    // numbers, length and start are taken.
+    unsafe { library::whipsail_rehearse(plan.as_ptr(), plan.len(), start) }
 }
 
 /// The record that lies in these bytes.
@@ -147,5 +163,6 @@ lies!(Input, 40, station 0 event 16);
 lies!(Told, 80, answer 0 station 64);
 lies!(Made, 24, code 0 station 8);
 lies!(Read, 32, whole 0 event 8);
+lies!(Rehearsed, 6, code 0 ending 1 last 2 counter 4);
 const _: () = assert!(size_of::<usize>() == 8, "a machine of 64 bits");
 const _: () = assert!(align_of::<Call>() == 8, "as the library asks");

@@ -1,4 +1,4 @@
-//! Why an event is refused.
+//! Why an event, a limit or a plan is refused.
 
 use crate::code::numbers;
 use core::{error, fmt};
@@ -12,7 +12,8 @@ numbers! {
         NotSound = 1,
         /// The event's time is before that of the last done event.
         TimeBefore = 2,
-        /// The event's kind or a field is wrong, or a fresh station's limit.
+        /// The event's kind or a field is wrong, or a fresh station's limit, or a
+        /// plan or its start.
         NotWellMade = 3,
         /// The call is past the table's end, free, or of the other direction.
         NoSuchCall = 4,
@@ -37,7 +38,7 @@ impl Refusal {
                 "the time is before that of the last done event: hand events over in the order of their times"
             }
             Refusal::NotWellMade => {
-                "a field is outside its range or not used by this kind (a limit: 1 to 15): correct what makes the event"
+                "a field is outside its range or not used by this kind (a limit: 1 to 15; a plan: 1 to 256 panels, with start and destinations among them): correct what makes it"
             }
             Refusal::NoSuchCall => {
                 "no such call: past the table's end, free, or of the other direction; look up which record is meant"

@@ -198,3 +198,77 @@ fn padding_is_no_part_of_a_record() {
     bytes[39] = 7;
     assert_ne!(Call::from_bytes(bytes), Call::FREE);
 }
+
+/// The numbers of a panel with these destinations and marks.
+fn panel(destinations: [u16; 3], busy: bool, unattended: bool) -> [u16; 4] {
+    let [cfu, cfb, cfnr] = destinations.map(Number::new);
+    Panel {
+        cfu,
+        cfb,
+        cfnr,
+        busy,
+        unattended,
+    }
+    .numbers()
+}
+
+#[test]
+fn every_panel_and_its_numbers() {
+    for marks in 0..=u16::MAX {
+        let numbers = [0, 7, 65535, marks];
+        let known = [0, 1, 256, 257].contains(&marks);
+        let read = Panel::of(numbers);
+        assert_eq!(read.map(Panel::numbers), known.then_some(numbers));
+        if let Some(read) = read {
+            assert_eq!(read.busy, marks & 255 == 1);
+            assert_eq!(read.unattended, marks >> 8 == 1);
+            assert_eq!((read.cfu, read.cfb), (None, Some(number(7))));
+        }
+    }
+    assert_eq!(Panel::of([0; 4]), Some(Panel::default()));
+    assert_eq!(Panel::default(), Panel::UNSET);
+}
+
+#[test]
+fn a_panel_forwards_in_the_order_of_the_page() {
+    let told = |one| Plan::new(&[one, [0; 4], [0; 4], [0; 4]]).rehearse(1);
+    let ends = |ending, last, counter| {
+        let last = number(last);
+        Ok(Rehearsal {
+            ending,
+            last,
+            counter,
+        })
+    };
+    let (rings, busy) = (Ending::Rings, Ending::Busy);
+    assert_eq!(told(panel([2, 3, 4], true, true)), ends(rings, 2, 1));
+    assert_eq!(told(panel([0, 3, 4], true, true)), ends(rings, 3, 1));
+    assert_eq!(told(panel([0, 0, 4], true, true)), ends(busy, 1, 0));
+    assert_eq!(told(panel([0, 3, 4], false, true)), ends(rings, 4, 1));
+    assert_eq!(told(panel([0, 3, 0], false, true)), ends(rings, 1, 0));
+    assert_eq!(told(panel([0, 3, 4], false, false)), ends(rings, 1, 0));
+    let limit = Station::short().limit();
+    assert_eq!(told([1, 0, 0, 0]), ends(Ending::Limit, 1, limit));
+}
+
+#[test]
+fn what_is_no_plan_is_refused() {
+    for length in 0..=4 * MOST_PANELS + 9 {
+        let numbers = std::vec![0; length];
+        let told = Plan::of_numbers(&numbers).rehearse(1);
+        let panels = 1..=MOST_PANELS;
+        let good = length % 4 == 0 && panels.contains(&(length / 4));
+        assert_eq!(told.is_ok(), good, "{length} numbers");
+    }
+    let refused = Err(Refusal::NotWellMade);
+    for bad in [[0, 0, 3, 0], [0, 0, 0, 2], [0, 0, 0, 0x0200]] {
+        assert_eq!(Plan::new(&[[0; 4], bad]).rehearse(1), refused);
+    }
+    for start in [0, 3, 65535] {
+        assert_eq!(Plan::new(&[[0; 4]; 2]).rehearse(start), refused);
+    }
+    for ending in 0..=255 {
+        let known = Ending::of(ending).map(Ending::number);
+        assert_eq!(known, (1..=3).contains(&ending).then_some(ending));
+    }
+}

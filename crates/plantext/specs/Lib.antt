@@ -1,0 +1,4 @@
+pub mod Text
+pub mod Statements
+pub mod Lines
+pub mod Form

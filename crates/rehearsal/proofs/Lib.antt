@@ -1,0 +1,5 @@
+pub mod Panels
+pub mod Offers
+pub mod Tonight
+pub mod Refusals
+pub mod Circles
