@@ -122,7 +122,7 @@ typedef struct whipsail_history {
     uint8_t seen;      /* mark: a DLI1 was seen */
     uint8_t strictest; /* option */
     uint8_t forbidden; /* mark: a forbidden DLI3 was seen */
-    uint8_t shown;     /* mark: a number was shown */
+    uint8_t shown;     /* mark: a number was shown since the last cfnr DLI1 */
     uint16_t nominated;
 } whipsail_history;
 

@@ -146,6 +146,9 @@ impl Call {
         if first || option < self.strictest {
             self.strictest = option;
         }
+        if reason == CFNR {
+            self.shown = 0;
+        }
         self.seen = 1;
         self.cdo = 1;
         self.nominated = nominated;

@@ -80,12 +80,17 @@ zero-mark n z = rw (eqb→eq n 0 z) tt
 marks : (h : History) → T (historyHolds h) → T (leb (h .forbidden) 1 && leb (h .shown) 1)
 marks h t = by-cases (seen h) (λ s. let u = simp s at t in search joins depth 8) (λ s. let u = simp s at t in search (joins, zero-mark) depth 8)
 
+-- a mark that a test clears
+cleared : (b : Bool) (n : ℕ) → T (leb n 1) → T (leb (when b then 0 else n) 1)
+cleared true n l = tt
+cleared false n l = l
+
 -- "DLI1: CDO Divert."
 dli1-kept : {c : Call} (d : Dli1) → Outgoing c → InRange d → T (not (active c)) → Outgoing (toCdo (takeDli1 (c .history) d) c)
 dli1-kept {c} d w n a =
     let m = marks (c .history) (w .history) in
     let s = stricter (c .history) (d .option) (n .option) in
-    search joins depth 12
+    search (joins, cleared) depth 12
 
 mark : (b : Bool) (n : ℕ) → T (leb n 1) → T (leb (when b then 1 else n) 1)
 mark true n l = tt

@@ -9,7 +9,7 @@ use Rattle.ground.specs.Choice.{when_then_else_}
 use Rattle.ground.proofs.Bools.{and-l, and-r, and-i, eq→eqb, by-cases}
 use Rattle.notice.specs.declared.Dli1.{Dli1}
 use Rattle.notice.specs.declared.History.{History}
-use Rattle.notice.specs.Notice.{noNotice, noNumber, seen, strictestWith, givesNotice, noticeOf, afterDli1, allowed, forbidden, mayShow, numberShown, afterDli3}
+use Rattle.notice.specs.Notice.{noNotice, noNumber, seen, strictestWith, givesNotice, noticeOf, reopened, afterDli1, allowed, forbidden, mayShow, numberShown, afterDli3}
 use Rattle.notice.specs.Stricter.{ShownOnlyWhere, hidden, agreed, StricterDli1, lowered, StricterFlag, kept, forbade, soFar, highest, restricted, StricterHistory, tightened}
 
 -- what two decisions on one value show
@@ -40,11 +40,20 @@ module _ (h : History) (s f n : ℕ) (low : s ≤ h .strictest) (top : h .strict
   small-now : h .strictest ≤ 2
   small-now = by-cases (seen h) (λ y. rw y at top) (λ z. omega (arith, rw z at top))
 
+-- marks that one test chooses, in both runs alike
+both-clear : (b : Bool) (x y m n : ℕ) → (x ≡ 0 → y ≡ 0) → (m ≡ 0 → n ≡ 0) → (when b then x else m) ≡ 0 → (when b then y else n) ≡ 0
+both-clear true x y m n p q e = p e
+both-clear false x y m n p q e = q e
+
+same-mark : (x : ℕ) → x ≡ 0 → x ≡ 0
+same-mark x e = e
+
 -- a DLI1 is heard
 pub dli1-stricter : {h h' : History} {d d' : Dli1} → StricterHistory h h' → StricterDli1 d d' → StricterHistory (afterDli1 h d) (afterDli1 h' d')
 dli1-stricter (tightened h s f n low top marked less shut) (lowered d o k l) =
-    tightened (afterDli1 h d) (strictestWith (restricted h s f n) o) f n (lower-with h s f n low top (d .option) o k)
-    (small-with h s f n low top (d .option) l) marked less (λ e. shut (full-before h s f n low top o e))
+    tightened (afterDli1 h d) (strictestWith (restricted h s f n) o) f (reopened (restricted h s f n) (d .reason) .shown)
+    (lower-with h s f n low top (d .option) o k) (small-with h s f n low top (d .option) l) marked (λ e. search (both-clear, same-mark, less))
+    (λ e free none. let unshown = shut (full-before h s f n low top o e) free in search (both-clear, same-mark, unshown))
 
 not-zero : (a b : ℕ) → a ≤ b → T (not (eqb a 0)) → T (not (eqb b 0))
 not-zero a b k t = not-T (eqb b 0) (λ u. let z : b ≡ 0 = eqb→eq b 0 u in T-not (eqb a 0) t (eq→eqb a 0 (omega arith)))
@@ -59,7 +68,7 @@ notice-only (tightened h s f n low top marked less shut) (lowered d o k l) t =
 pub notice-stricter : {h h' : History} {d d' : Dli1} → StricterHistory h h' → StricterDli1 d d' → ShownOnlyWhere noNotice (noticeOf h d) (noticeOf h' d')
 notice-stricter p (lowered d o k l) = search (when-shown, notice-only, lowered d o k l)
 
--- "exactly if every option so far is 2, every DLI3 so far is allowed and no number has been shown in this call"
+-- "exactly if every option so far is 2, every DLI3 so far is allowed and no number has been shown", since the last cfnr DLI1
 number-only : {h h' : History} {flag flag' : ℕ} → StricterHistory h h' → StricterFlag flag flag' → T (mayShow h' flag') → T (mayShow h flag)
 number-only (tightened h s f n low top marked less shut) kept t =
     let full : s ≡ 2 = search (and-l, and-r, eqb→eq) in

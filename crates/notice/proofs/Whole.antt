@@ -10,7 +10,7 @@ use Rattle.ground.specs.Lists.{all, any}
 use Rattle.ground.proofs.Bools.{and-l, and-r, is-true, from-false}
 use Rattle.notice.specs.declared.Dli1.{Dli1}
 use Rattle.notice.specs.Notice.{noNotice, noHistory, mayShow, strictestWith, givesNotice}
-use Rattle.notice.specs.Whole.{Mark, may, mayNot, flagOf, isAllowed, isForbidden, Told, dli1, dli3, optionsOf, marksOf, diverted, counted, optionsOk, lastNominated, allClear, shownBefore, shows, notZero, notices, historyOf, historyFrom, Least, ShowsByList, ShowsExactly, NoticesByList, NoticesExactly, Summarises, StoredInOrder}
+use Rattle.notice.specs.Whole.{Mark, may, mayNot, flagOf, isAllowed, isForbidden, Told, dli1, dli3, optionsOf, marksOf, diverted, counted, optionsOk, lastNominated, allClear, shownSince, shows, notZero, notices, historyOf, historyFrom, Least, ShowsByList, ShowsExactly, NoticesByList, NoticesExactly, Summarises, StoredInOrder}
 use Rattle.notice.proofs.Least.{least-one, least-more, least-two, least-some}
 
 seen-is : (l : List Told) → historyOf l .seen ≡ when diverted l then 1 else 0
@@ -85,13 +85,18 @@ option-ok : (d : Dli1) (l : List Told) → T (optionsOk (dli1 d ∷ l)) → T (o
 unfolding optionsOf all
 option-ok d l o = and-r (leb (d .option) 2) (optionsOk l) o
 
-shown-is : (l : List Told) → T (counted l) → T (optionsOk l) → historyOf l .shown ≡ when shownBefore l then 1 else 0
-unfolding historyOf shownBefore counted optionsOf
+-- the mark after a DLI1 that reopens, and after one that does not
+mark-reopened : (b s : Bool) (n : ℕ) → n ≡ (when s then 1 else 0) → (when b then 0 else n) ≡ when (when b then false else s) then 1 else 0
+mark-reopened true s n e = refl
+mark-reopened false s n e = e
+
+shown-is : (l : List Told) → T (counted l) → T (optionsOk l) → historyOf l .shown ≡ when shownSince l then 1 else 0
+unfolding historyOf shownSince counted optionsOf
 shown-is [] c o = refl
-shown-is (dli1 d ∷ l) c o = shown-is l c (option-ok d l o)
+shown-is (dli1 d ∷ l) c o = mark-reopened (eqb (d .reason) 3) (shownSince l) (historyOf l .shown) (shown-is l c (option-ok d l o))
 shown-is (dli3 m n ∷ l) c o =
     let ih = shown-is l (and-r (diverted l) (counted l) c) o in
-    rw (clear-is l m (shownBefore l) (and-l (diverted l) (counted l) c) o ih, ih) (one-of (shownBefore l) (shows l m) 1 0)
+    rw (clear-is l m (shownSince l) (and-l (diverted l) (counted l) c) o ih, ih) (one-of (shownSince l) (shows l m) 1 0)
 
 unused-is : (l : List Told) → T (counted l) → T (not (diverted l)) → historyOf l ≡ noHistory
 unfolding historyOf counted any
@@ -114,7 +119,7 @@ unfolding counted
 number-by-list l m number c o =
     let d = and-l (diverted l) (counted l) c in
     let s = shown-is l (and-r (diverted l) (counted l) c) o in
-    simp (clear-is l m (shownBefore l) d o s, nominated-is l)
+    simp (clear-is l m (shownSince l) d o s, nominated-is l)
 
 pub number-exactly : ShowsExactly
 number-exactly l m number c o z = rw (number-by-list l m number c o) (chosen (shows l m) (eqb number 0) refl)

@@ -46,20 +46,32 @@ givesNotice h d =
 abbrev pub noticeOf : History → Dli1 → ℕ
 noticeOf h d = when givesNotice h d then d .reason else noNotice
 
+-- H.450.3, 9.1: "no previous notification of a diverted-to number has been given to the calling user unless, since then, a
+-- divertingLegInformation1 invoke APDU with value cfnr in element diversionReason has been received.": a cfnr DLI1, whatever its
+-- option, clears the shown mark. The options and the forbidden mark of the call still count.
+abbrev pub reopened : History → ℕ → History
+reopened h reason = record {
+  seen = h .seen;
+  strictest = h .strictest;
+  forbidden = h .forbidden;
+  shown = when eqb reason 3 then 0 else h .shown;
+  nominated = h .nominated;
+}
+
 abbrev pub afterDli1 : History → Dli1 → History
 afterDli1 h d = record {
   seen = 1;
-  strictest = strictestWith h (d .option);
-  forbidden = h .forbidden;
-  shown = h .shown;
+  strictest = strictestWith (reopened h (d .reason)) (d .option);
+  forbidden = reopened h (d .reason) .forbidden;
+  shown = reopened h (d .reason) .shown;
   nominated = d .number;
 }
 
 abbrev pub takeDli1 : History → Dli1 → Noticed
 takeDli1 h d = record { notice = noticeOf h d; history = afterDli1 h d }
 
--- of a DLI3 in Divert (its callers test that): it "shows its number .. exactly if every option so far is 2, every DLI3 so far is allowed and no number
--- has been shown in this call."
+-- of a DLI3 in Divert (its callers test that): it "shows its number .. exactly if every option so far is 2, every DLI3 so far is
+-- allowed and no number has been shown", since the last cfnr DLI1 of the call if it had one
 abbrev pub mayShow : History → ℕ → Bool
 mayShow h flag = eqb flag allowed && eqb (h .strictest) 2 && eqb (h .forbidden) 0 && eqb (h .shown) 0
 

@@ -66,19 +66,22 @@ lastNominated [] = noNumber
 lastNominated (dli1 d ∷ l) = d .number
 lastNominated (dli3 m n ∷ l) = lastNominated l
 
--- "every option so far is 2, every DLI3 so far is allowed and no number has been shown": this DLI3's mark counts too
+-- "every option so far is 2, every DLI3 so far is allowed and no number has been shown": this DLI3's mark counts too; `before`
+-- is that one was shown since the last cfnr DLI1
 abbrev pub allClear : List Told → Mark → Bool → Bool
 allClear l m before = all (eqb 2) (optionsOf l) && all isAllowed (m ∷ marksOf l) && not before
 
--- some DLI3 of the list showed a number
-unfoldable pub shownBefore : List Told → Bool
-shownBefore [] = false
-shownBefore (dli1 d ∷ l) = shownBefore l
-shownBefore (dli3 m n ∷ l) = shownBefore l || allClear l m (shownBefore l)
+-- Some DLI3 since the last cfnr DLI1 of the list showed a number. H.450.3, 9.1: "no previous notification of a diverted-to
+-- number has been given to the calling user unless, since then, a divertingLegInformation1 invoke APDU with value cfnr in
+-- element diversionReason has been received."
+unfoldable pub shownSince : List Told → Bool
+shownSince [] = false
+shownSince (dli1 d ∷ l) = when eqb (d .reason) 3 then false else shownSince l
+shownSince (dli3 m n ∷ l) = shownSince l || allClear l m (shownSince l)
 
 -- a DLI3 with this mark, after the list, shows a number
 abbrev pub shows : List Told → Mark → Bool
-shows l m = allClear l m (shownBefore l)
+shows l m = allClear l m (shownSince l)
 
 -- "its number, or the last nominated one if absent"
 abbrev pub numberFor : List Told → ℕ → ℕ
@@ -118,7 +121,7 @@ pub record Summary (l : List Told) (h : History) : Type 0 where
   pub seenIs : h .seen ≡ when diverted l then 1 else 0
   pub strictestIs : T (diverted l) → Least (h .strictest) (optionsOf l)
   pub forbiddenIs : h .forbidden ≡ when any isForbidden (marksOf l) then 1 else 0
-  pub shownIs : h .shown ≡ when shownBefore l then 1 else 0
+  pub shownIs : h .shown ≡ when shownSince l then 1 else 0
   pub nominatedIs : h .nominated ≡ lastNominated l
 
 -- A DLI3 shows its number, or the last nominated one if absent, exactly if the list and its own mark say so. The list with

@@ -1,6 +1,6 @@
 // What the caller is told: the history of the DLI1 and DLI3 of one call.
 ghost use mathlib.Core.Path.{_≡_};
-ghost use Rattle.notice.specs.Notice.{strictestWith, givesNotice, noticeOf, takeDli1, mayShow, numberShown, afterDli3, takeDli3};
+ghost use Rattle.notice.specs.Notice.{strictestWith, givesNotice, noticeOf, reopened, takeDli1, mayShow, numberShown, afterDli3, takeDli3};
 
 // A divertingLegInformation1: the reason, the option and the nominated number.
 #[repr(C)]
@@ -10,7 +10,8 @@ pub struct Dli1 {
     pub number: u16,
 }
 
-// All 0 before the first DLI1 of the call. `seen`, `forbidden` and `shown` are marks, 0 or 1.
+// All 0 before the first DLI1 of the call. `seen`, `forbidden` and `shown` are marks, 0 or 1; `shown` is of what was shown since
+// the last cfnr DLI1.
 #[repr(C)]
 pub struct History {
     pub seen: u8,
@@ -66,12 +67,24 @@ impl History {
         if self.gives_notice(d) { d.reason } else { 255 }
     }
 
+    // A cfnr DLI1 opens the way for another number.
+    fn reopened(self, reason: u8) -> History
+        ensures { λ r. ⌜ r ≡ reopened self reason ⌝ }
+    {
+        let mut h = self;
+        if reason == 3 {
+            h.shown = 0;
+            return h;
+        }
+        h
+    }
+
     pub fn take_dli1(self, d: Dli1) -> Noticed
         ensures { λ r. ⌜ r ≡ takeDli1 self d ⌝ }
     {
         let notice = self.notice_of(d);
-        let strictest = self.strictest_with(d.option);
-        let mut h = self;
+        let mut h = self.reopened(d.reason);
+        let strictest = h.strictest_with(d.option);
         h.seen = 1;
         h.strictest = strictest;
         h.nominated = d.number;

@@ -1,7 +1,7 @@
--- "over the whole list of DLI1 and DLI3 that a call took account of, a number is shown exactly when every option so far is 2,
--- every DLI3 so far is allowed and none was shown before, and a notice is given exactly as the sentences for the first and for
--- later ones say": over a run. Which DLI1 and DLI3 an event brings is `tells` of call's specs/Told; what they give the caller is
--- said of the list alone, by `notices` and `shows` of notice's specs/Whole. The theorems are in proofs/Told.
+-- Over the whole list of DLI1 and DLI3 that a call took account of, a number is shown exactly when every option so far is 2,
+-- every DLI3 so far is allowed and none was shown since the last cfnr DLI1, and a notice is given exactly as the sentences for
+-- the first and for later ones say: over a run. Which DLI1 and DLI3 an event brings is `tells` of call's specs/Told; what they
+-- give the caller is said of the list alone, by `notices` and `shows` of notice's specs/Whole. The theorems are in proofs/Told.
 use Prim.Native.Nat.{ℕ, _≤_}
 use mathlib.Core.Bool.{_&&_}
 use mathlib.Core.List.{List, [], _∷_}

@@ -99,6 +99,21 @@ fn one_field_of_one_record() {
     assert!(said.contains("answer call 0"), "{said}");
 }
 
+/// One number in a call, as before document 02, Two.
+#[test]
+fn a_number_shown_once() {
+    let wrong = |table: &mut [Record], station: &mut Station, event: &Event| {
+        let shown: Vec<u8> = table.iter().map(|record| record.shown).collect();
+        let answer = step(table, station, event);
+        if let (Some(at), DLI1) = (answer.call, event.kind) {
+            table[usize::from(at)].shown = shown[usize::from(at)];
+        }
+        answer
+    };
+    let said = found(Profile::Second, &wrong, 6);
+    assert!(said.contains("cfnr"), "{said}");
+}
+
 /// Takes any T1 start.
 fn any_start(table: &mut [Record], station: &mut Station, event: &Event) -> Answer {
     let last = station.last_time;

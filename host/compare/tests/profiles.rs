@@ -80,6 +80,11 @@ fn hostile() {
 }
 
 #[test]
+fn second() {
+    run(Profile::Second);
+}
+
+#[test]
 fn these_are_all_profiles() {
-    assert_eq!(profile::ALL.len(), 6);
+    assert_eq!(profile::ALL.len(), 7);
 }

@@ -199,6 +199,29 @@ pub fn about_a_call(random: &mut Random, table: &[Record]) -> Event {
     }
 }
 
+/// The event, mostly with its options and DLI3s as open as can be, and seldom
+/// an answer: a call shows a second number only after many such.
+pub fn open_handed(random: &mut Random, event: Event) -> Event {
+    if random.chance(5) {
+        return event;
+    }
+    match (event.kind, event.message) {
+        (REROUTE | DLI1, _) => Event {
+            option: WITH_NUMBER,
+            ..event
+        },
+        (MESSAGE, CONNECT) => Event {
+            message: ALERTING,
+            ..event
+        },
+        (MESSAGE, _) if event.flag == DLI3_FORBIDDEN => Event {
+            flag: DLI3_ALLOWED,
+            ..event
+        },
+        _ => event,
+    }
+}
+
 /// A well-made event of any kind about any call, near the table or past it.
 pub fn any_well_made(random: &mut Random, table: &[Record]) -> Event {
     let leg = random.byte(1, 2);

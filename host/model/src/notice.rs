@@ -16,6 +16,11 @@ pub fn dli1(record: &mut Record, reason: u8, option: u8, nominated: u16) -> Opti
     record.cdo = DIVERT;
     record.seen = 1;
     record.nominated = nominated;
+    // "after a shown number, a DLI1 with reason cfnr opens the way for
+    // another, while all the other conditions still hold" (02, Two)
+    if reason == CFNR {
+        record.shown = 0;
+    }
     // "The first of a call gives a notice unless its option is 0. A later one
     // gives a notice exactly if its reason is cfnr and no option so far is 0."
     let told = (first || reason == CFNR) && record.strictest != NO_NOTIFICATION;
@@ -32,7 +37,7 @@ pub fn dli3(record: &mut Record, flag: u8, number: u16) -> Option<u16> {
         record.forbidden = 1;
     }
     // "exactly if every option so far is 2, every DLI3 so far is allowed and
-    // no number has been shown in this call"
+    // no number has been shown in this call", now since its last cfnr DLI1
     if record.strictest != WITH_NUMBER || record.forbidden != 0 || record.shown != 0 {
         return None;
     }

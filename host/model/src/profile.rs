@@ -25,15 +25,18 @@ pub enum Profile {
     Wrap,
     /// Any bytes, damaged fields, backward clocks, wrong calls.
     Hostile,
+    /// Few outgoing calls that live long and show number after number.
+    Second,
 }
 
-pub const ALL: [Profile; 6] = [
+pub const ALL: [Profile; 7] = [
     Profile::Mixed,
     Profile::Deep,
     Profile::Full,
     Profile::Clock,
     Profile::Wrap,
     Profile::Hostile,
+    Profile::Second,
 ];
 
 /// How a profile chooses; chances are in percent, tried in this order.
@@ -59,6 +62,7 @@ impl Profile {
             Profile::Clock => "clock",
             Profile::Wrap => "wrap",
             Profile::Hostile => "hostile",
+            Profile::Second => "second",
         }
     }
 
@@ -80,6 +84,7 @@ impl Profile {
             Profile::Clock => taste(0, 1, 2, 30, 35, 40, 1, 12),
             Profile::Wrap => taste(0, 0, 3, 1, 60, 64, 0, 1),
             Profile::Hostile => taste(15, 25, 25, 4, 25, 10, 12, 6),
+            Profile::Second => taste(0, 0, 1, 1, 30, 4, 0, 1),
         }
     }
 }
@@ -157,20 +162,26 @@ impl Walk {
         }
         match self.profile {
             Profile::Wrap | Profile::Clock if random.chance(60) => self.divert_somewhere(),
+            Profile::Second => {
+                let event = guided::about_a_call(random, &self.table);
+                guided::open_handed(random, event)
+            }
             _ => guided::about_a_call(random, &self.table),
         }
     }
 
-    /// Wrap and Clock live on incoming calls.
+    /// Wrap and Clock live on incoming calls, Second on outgoing ones.
     fn opening(&mut self) -> Event {
         let event = guided::open(&mut self.random);
-        match self.profile {
-            Profile::Wrap | Profile::Clock if self.random.chance(80) => Event {
-                kind: OPEN_INCOMING,
-                first: event.first,
-                ..Event::default()
-            },
-            _ => event,
+        let kind = match self.profile {
+            Profile::Wrap | Profile::Clock if self.random.chance(80) => OPEN_INCOMING,
+            Profile::Second if self.random.chance(95) => OPEN_OUTGOING,
+            _ => return event,
+        };
+        Event {
+            kind,
+            first: event.first,
+            ..Event::default()
         }
     }
 

@@ -27,7 +27,7 @@ pub struct Record {
     pub strictest: u8,
     /// History: a forbidden DLI3 was seen.
     pub forbidden: u8,
-    /// History: a number was shown.
+    /// History: a number was shown, since the last DLI1 with reason cfnr.
     pub shown: u8,
     /// History: the last nominated number.
     pub nominated: u16,

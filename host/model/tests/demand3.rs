@@ -90,7 +90,12 @@ fn compare(profile: Profile, seed: u64, start: (Vec<Record>, Station), events: u
 fn a_stricter_list_tells_no_more() {
     let mut hidden = [0, 0];
     for seed in 0..60 {
-        for profile in [Profile::Deep, Profile::Mixed, Profile::Hostile] {
+        for profile in [
+            Profile::Deep,
+            Profile::Mixed,
+            Profile::Hostile,
+            Profile::Second,
+        ] {
             let found = compare(profile, seed, panel::start(), 600);
             hidden = [hidden[0] + found[0], hidden[1] + found[1]];
         }

@@ -129,7 +129,8 @@ impl Call {
         Number::new(self.history.nominated)
     }
 
-    /// Whether a number of the diverted-to party was shown to the caller.
+    /// Whether a number of the diverted-to party was shown to the caller, since the last
+    /// divertingLegInformation1 on no reply if there was one.
     pub const fn number_shown(&self) -> bool {
         self.history.shown == 1
     }
