@@ -153,7 +153,8 @@ typedef struct whipsail_call {
  * after 65535: what they left may have next 0, or an open request with identifier
  * 0, and is then refused with 1 at every event. Start again with zeroed records
  * and a fresh station; or, where next is 0 and no request is open with 0, set
- * next to 1. */
+ * next to 1; or, before the archive is changed, let a request with 0 end: by its
+ * answer, by a clock event 10,000 ms after it, or with its call. */
 typedef struct whipsail_station {
     uint64_t last; /* time of the last done event */
     uint16_t next; /* next identifier, not 0 */

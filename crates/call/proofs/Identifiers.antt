@@ -1,6 +1,7 @@
 -- No sound record has an open request with identifier 0, and an invoke's identifier is echoed whatever it is. Assumes nothing.
 use Prim.Native.Nat.{ℕ}
 use mathlib.Core.Path.{_≡_, refl}
+use mathlib.Core.Logic.{inl, inr}
 use mathlib.Core.Bool.{not}
 use lib.Dec.{T, eqb, eqb→eq, T-not}
 use Rattle.ground.proofs.Bools.{eq→eqb, when-has}
@@ -20,13 +21,13 @@ request-there last c h r z =
     T-not (eqb (c .identifier) 0) n (eq→eqb (c .identifier) 0 z)
 
 turned-down-echoes : (c : Call) (e : Event) → Echoes e (turnedDown c e)
-turned-down-echoes c e = record { message = refl; answer = refl }
+turned-down-echoes c e = record { letter = inr refl; message = refl; answer = refl }
 
 forwarded-echoes : (c : Call) (e : Event) → Echoes e (forwarded c e)
-forwarded-echoes c e = record { message = refl; answer = refl }
+forwarded-echoes c e = record { letter = inl refl; message = refl; answer = refl }
 
 redirected-echoes : (c : Call) (e : Event) → Echoes e (redirected c e)
-redirected-echoes c e = record { message = refl; answer = refl }
+redirected-echoes c e = record { letter = inl refl; message = refl; answer = refl }
 
 rerouted-echoes : (c : Call) (e : Event) → Echoes e (rerouted c e)
 rerouted-echoes c e =

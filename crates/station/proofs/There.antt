@@ -11,18 +11,25 @@ use Rattle.event.specs.WellMade.{wellMade}
 use Rattle.event.proofs.Identifiers.{zero-ill-made}
 use Rattle.call.specs.declared.Call.{Call}
 use Rattle.call.specs.Record.{freeCall, requested}
-use Rattle.call.proofs.Identifiers.{request-there}
+use Rattle.call.proofs.Identifiers.{request-there, invoke-echoes}
 use Rattle.station.specs.declared.Station.{Station}
-use Rattle.station.specs.Table.{at, sound}
+use Rattle.station.specs.Table.{at, identifierFor, sound}
 use Rattle.station.specs.Refusals.{refusal, refusalOnSound}
 use Rattle.station.specs.Step.{step, run}
 use Rattle.station.specs.Demand1.{ZeroIsThree}
-use Rattle.station.specs.Demand2.{Open, RequestsThere, RunThere, DivertThere, NextThere}
+use Rattle.station.specs.Demand2.{Open, RequestsThere, RunThere, DivertThere, NextThere, InvokeEchoed}
 use Rattle.station.proofs.Demand1.{code-refusal, done-passed}
 use Rattle.station.proofs.Whole.{whole, record-sound}
 use Rattle.station.proofs.Requests.{drawn-there}
 use Rattle.station.proofs.Kept.{step-sound, run-sound}
+use Rattle.station.proofs.Named.{named-acts}
 use Rattle.station.proofs.Asking.{divert-asks}
+
+pub invoke-echoed : InvokeEchoed
+invoke-echoed s calls e q z =
+    let a = named-acts s calls e (rw q tt) (rw q) z in
+    let x = invoke-echoes (at calls (e .call)) e (identifierFor s calls) q in
+    rw (a .leaves) (x .answer, x .message)
 
 pub zero-is-three : ZeroIsThree
 unfolding refusal refusalOnSound

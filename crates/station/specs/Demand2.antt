@@ -91,13 +91,21 @@ RunThere = (s : Station) (calls : List Call) (events : List Event) → T (sound 
 abbrev pub DrawnThere : Type 0
 DrawnThere = (s : Station) (calls : List Call) → T (sound s calls) → identifierFor s calls ≡ 0 → ⊥
 
--- nor the request that a done divert opens and sends,
+-- nor the one that a done divert's answer names, which its request and its invoke bear too (`Asks`),
 abbrev pub DivertThere : Type 0
 DivertThere = (s : Station) (calls : List Call) (e : Event) → T (diverts e) → codeOf s calls e ≡ 0 → step s calls e .answer .identifier ≡ 0 → ⊥
 
 -- and no done event leaves it as the next
 abbrev pub NextThere : Type 0
 NextThere = (s : Station) (calls : List Call) (e : Event) → codeOf s calls e ≡ 0 → step s calls e .station .next ≡ 0 → ⊥
+
+-- "Received invokes may still bear 0 and it is echoed.": what a host is told and sends
+abbrev pub InvokeEchoed : Type 0
+InvokeEchoed =
+    (s : Station) (calls : List Call) (e : Event)
+    → e .kind ≡ 12
+    → codeOf s calls e ≡ 0
+    → (step s calls e .answer .identifier ≡ e .identifier) × (step s calls e .answer .sent .first .identifier ≡ e .identifier)
 
 -- "6: .. Sends the callRerouting invoke with .. counter plus 1 .. Enters Requested, starts T1."; "the one after it is next"
 pub record Asks (s : Station) (before : List Call) (e : Event) (o : Outcome) : Type 0 where

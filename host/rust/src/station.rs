@@ -41,7 +41,10 @@ impl Station {
     /// Earlier archives gave identifier 0 after 65,535: what they left may have
     /// next identifier 0, or an open request with it, and every event is then
     /// [`Refusal::NotSound`]. Start again with free records and a fresh station;
-    /// or, where the next identifier is 0 and no request is open with 0, hand in 1.
+    /// or, where the next identifier is 0 and no request is open with 0, hand in 1:
+    /// `Station::kept(s.last(), 1, s.limit())`; or, before the archive is changed, let
+    /// a request with 0 end: by its answer, by a clock event 10,000 ms after it, or
+    /// with its call.
     pub const fn kept(last: u64, next: u16, limit: u8) -> Station {
         Station {
             last,
