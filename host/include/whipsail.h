@@ -28,8 +28,9 @@
 extern "C" {
 #endif
 
-/* How an answer holds "none": 0 is a call, a reason and an identifier, but
- * neither a party number nor a counter that is sent, nor a letter. */
+/* How an answer holds "none": 0 is a call, a reason and an identifier (that of
+ * an invoke that is received, echoed; our own are 1 to 65535), but neither a
+ * party number nor a counter that is sent, nor a letter. */
 #define WHIPSAIL_NO_CALL 255
 #define WHIPSAIL_NO_NOTICE 255
 #define WHIPSAIL_NO_IDENTIFIER 65536
@@ -61,13 +62,13 @@ enum {
     WHIPSAIL_ALERTED = 4,       /* call; of an incoming call, as 5 to 9 */
     WHIPSAIL_ANSWERED = 5,      /* call; flag 1: the own number may be shown */
     WHIPSAIL_DIVERT = 6,        /* call, reason 1 to 3, option; second: destination */
-    WHIPSAIL_RESULT = 7,        /* call, identifier */
-    WHIPSAIL_ERROR = 8,         /* call, identifier; also a reject */
+    WHIPSAIL_RESULT = 7,        /* call, identifier, not 0 */
+    WHIPSAIL_ERROR = 8,         /* call, identifier, not 0; also a reject */
     WHIPSAIL_LEG_FAILED = 9,    /* call */
     WHIPSAIL_CLOCK = 10,        /* none; send one now and then, until its answer names no call */
     WHIPSAIL_END = 11,          /* call: the own side ends it */
     WHIPSAIL_REROUTE = 12,      /* of an outgoing call, as 13 and 14: call, leg, reason 1 to 3, option, counter 1 to 15,
-                                   identifier; second: destination, third: original called */
+                                   identifier, also 0; second: destination, third: original called */
     WHIPSAIL_DLI1 = 13,         /* call, reason, option; second: nominated number */
     WHIPSAIL_RECEIVED = 14,     /* call, leg, message, flag; second: number of the DLI3 */
     WHIPSAIL_FAR_END = 15       /* call: the far end ends an incoming one */
@@ -76,8 +77,9 @@ enum {
 /* Why an event is refused, and what to do. */
 enum {
     WHIPSAIL_DONE = 0,
-    WHIPSAIL_NOT_SOUND = 1,        /* the table is empty, too long or not sound, or the limit not 1 to 15: lend the
-                                      records as they were left, or start again with zeroed ones and a fresh station */
+    WHIPSAIL_NOT_SOUND = 1,        /* the table is empty, too long or not sound, the limit not 1 to 15, or the next
+                                      identifier 0: lend the records as they were left, or start again with zeroed ones
+                                      and a fresh station (whipsail_station says more of one that was kept) */
     WHIPSAIL_TIME_BEFORE = 2,      /* its time is before that of the last done event: keep to the order of times */
     WHIPSAIL_NOT_WELL_MADE = 3,    /* its kind or a field (or a limit, a plan or its start): correct what makes it */
     WHIPSAIL_NO_SUCH_CALL = 4,     /* past the table's end, free, or of the other direction: look up the record */
@@ -142,14 +144,20 @@ typedef struct whipsail_call {
     uint16_t own;             /* of an incoming call, as all that follows */
     uint16_t diverting;
     uint16_t original;
-    uint16_t identifier; /* of the open request */
+    uint16_t identifier; /* of the open request, not 0 */
     uint8_t reason;      /* of the open request or the grant */
     uint64_t start;      /* T1 start of the open request */
 } whipsail_call;
 
+/* May be kept with its table over a restart. Earlier archives gave identifier 0
+ * after 65535: what they left may have next 0, or an open request with identifier
+ * 0, and is then refused with 1 at every event. Start again with zeroed records
+ * and a fresh station; or, where next is 0 and no request is open with 0, set
+ * next to 1; or, before the archive is changed, let a request with 0 end: by its
+ * answer, by a clock event 10,000 ms after it, or with its call. */
 typedef struct whipsail_station {
     uint64_t last; /* time of the last done event */
-    uint16_t next; /* next identifier */
+    uint16_t next; /* next identifier, not 0 */
     uint8_t limit; /* 1 to 15 */
 } whipsail_station;
 

@@ -97,7 +97,14 @@ impl Event {
                     && e.second != 0
                     && e.third == 0
             }
-            7 | 8 => no_leg && no_choice && e.counter == 0 && e.flag == 0 && no_numbers,
+            7 | 8 => {
+                no_leg
+                    && no_choice
+                    && e.counter == 0
+                    && e.flag == 0
+                    && e.identifier != 0
+                    && no_numbers
+            }
             10 => {
                 e.call == 0
                     && no_leg

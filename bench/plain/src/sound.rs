@@ -8,6 +8,9 @@ pub fn sound(table: &[Call], station: &Station) -> bool {
     if !(1..=64).contains(&table.len()) || !(1..=15).contains(&station.limit) {
         return false;
     }
+    if station.next == 0 {
+        return false;
+    }
     let mut open = [0; 64];
     let mut count = 0;
     for call in table {
@@ -96,7 +99,7 @@ impl Call {
         };
         let request = match (self.cds, self.granted) {
             (0, 0) => self.reason == 0 && self.identifier == 0 && self.start == 0,
-            (1, 0) => fits && self.start <= last,
+            (1, 0) => fits && self.identifier != 0 && self.start <= last,
             (0, 1) => fits && self.identifier == 0 && self.start == 0,
             _ => return false,
         };

@@ -97,11 +97,17 @@ impl Station {
             .iter()
             .any(|d| d.cds == 1 && d.identifier == identifier)
         {
-            identifier = identifier.wrapping_add(1);
+            identifier = after(identifier);
         }
-        self.next = identifier.wrapping_add(1);
+        self.next = after(identifier);
         identifier
     }
+}
+
+/// The identifier after one: 1 to 65,535 in a round.
+#[inline]
+fn after(identifier: u16) -> u16 {
+    identifier.wrapping_add(1).max(1)
 }
 
 #[inline]

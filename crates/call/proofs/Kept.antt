@@ -3,7 +3,7 @@ use Prim.Native.Nat.{ℕ, _≤_}
 use native.Mathlib.Omega.{arith}
 use mathlib.Core.Path.{_≡_, refl}
 use mathlib.Core.Bool.{Bool, false, not, _&&_, _||_}
-use lib.Dec.{T, leb, leb→le, le→leb, T-not, not-T}
+use lib.Dec.{T, eqb, leb, leb→le, le→leb, T-not, not-T}
 use Rattle.ground.proofs.Bools.{and-l, and-r, and-i, nor-l, nor-r, not-not, when-has, trivial}
 use Rattle.event.specs.declared.Event.{Event}
 use Rattle.event.specs.Kinds.{ofIncoming, ofOutgoing, diverts, ends, facility, releaseComplete, onLeg2}
@@ -60,9 +60,10 @@ alerts-unheld c e k n w =
     let q : T (not (leaving c)) = search (nor-l, nor-r) depth 8 in
     inc.unheld w (not-not (proceeding c) p) q
 
--- a record after an event: sound, and a request that it holds is one that the event, a divert, opened
+-- a record after an event: sound, if the identifier that a divert would take is not 0, and a request that it holds is one that the event, a
+-- divert, opened
 record Left (time identifier : ℕ) (diverting : Bool) (c : Call) : Type 0 where
-  sound : T (soundCall time c)
+  sound : T (not (eqb identifier 0)) → T (soundCall time c)
   request : T (requested c) → T diverting × (c .identifier ≡ identifier)
 
 abbrev Leaves : ℕ → ℕ → Bool → Effect → Type 0
@@ -70,7 +71,7 @@ Leaves time identifier diverting x = Left time identifier diverting (x .call)
 
 module _ {time identifier : ℕ} {diverting : Bool} where
   left-unasked : {c : Call} → T (soundCall time c) → T (not (requested c)) → Left time identifier diverting c
-  left-unasked {c} h n = record { sound = h; request = λ r. absurd (T-not (requested c) n r) }
+  left-unasked {c} h n = record { sound = λ _. h; request = λ r. absurd (T-not (requested c) n r) }
 
   left-free : Left time identifier diverting freeCall
   left-free = left-unasked (free-sound time) tt
@@ -130,8 +131,11 @@ module _ (identifier : ℕ) (c : Call) (e : Event) (h : T (soundCall (e .time) c
       let p : T (not (not (fits (e .reason) c))) = search nor-l depth 8 in
       let q : T (not (requested c || granted c)) = search (nor-l, nor-r) depth 8 in
       let l : T (leb (e .reason) 3) = search (and-l, and-r) depth 12 in
-      let w = inc.diverted-kept e identifier (as-incoming (rw k tt)) (not-not (fits (e .reason) c) p) l q in
-      rw k (record { sound = incoming-sound w; request = λ _. (tt, refl {a = identifier}) })
+      rw k
+      (record {
+        sound = λ z. incoming-sound (inc.diverted-kept e identifier z (as-incoming (rw k tt)) (not-not (fits (e .reason) c) p) l q);
+        request = λ _. (tt, refl {a = identifier});
+      })
   left (results k f) =
       let m = rw k at n in
       let p : T (not (not (requested c))) = search nor-l depth 8 in
@@ -149,9 +153,9 @@ module _ (identifier : ℕ) (c : Call) (e : Event) (h : T (soundCall (e .time) c
   left (farEnds k f) = rw k left-free
 
 -- "Each done event leaves a sound table": the record that the event acts on
-pub act-kept : (last identifier : ℕ) (c : Call) (e : Event) → T (soundCall last c) → last ≤ e .time → T (wellMade e) → T (addressed c e)
-    → T (not (stateForbids c e)) → T (soundCall (e .time) (act c e identifier .call))
-act-kept last identifier c e h l f a n = left identifier c e (sound-later last (e .time) c l h) a n (made e f) .sound
+pub act-kept : (last identifier : ℕ) (c : Call) (e : Event) → T (not (eqb identifier 0)) → T (soundCall last c) → last ≤ e .time → T (wellMade e)
+    → T (addressed c e) → T (not (stateForbids c e)) → T (soundCall (e .time) (act c e identifier .call))
+act-kept last identifier c e z h l f a n = left identifier c e (sound-later last (e .time) c l h) a n (made e f) .sound z
 
 -- after an event a record is Requested only if the event is a divert, and then with the identifier that was drawn
 pub act-request : (last identifier : ℕ) (c : Call) (e : Event) → T (soundCall last c) → last ≤ e .time → T (wellMade e) → T (addressed c e)

@@ -77,9 +77,9 @@ answered-kept {last} {c} e w =
     (λ n. record { sound = basic-kept 3 (idle-kept w) tt tt tt (denied-l (wait c) true n); unasked = tt })
 
 -- "6: .. Enters Requested, starts T1."
-pub diverted-kept : {c : Call} (e : Event) (identifier : ℕ) → Incoming (e .time) c → T (fits (e .reason) c) → T (leb (e .reason) 3) → T (not (requested c || granted c))
-    → Incoming (e .time) (diverted c e identifier .call)
-diverted-kept {c} e identifier w f l q = let a = fits-apart (e .reason) c f in search joins depth 12
+pub diverted-kept : {c : Call} (e : Event) (identifier : ℕ) → T (not (eqb identifier 0)) → Incoming (e .time) c → T (fits (e .reason) c) → T (leb (e .reason) 3)
+    → T (not (requested c || granted c)) → Incoming (e .time) (diverted c e identifier .call)
+diverted-kept {c} e identifier z w f l q = let a = fits-apart (e .reason) c f in search joins depth 12
 
 -- "7: Idle, granted."
 pub grant-kept : {last : ℕ} {c : Call} → Incoming last c → T (requested c) → Incoming last (grant c)

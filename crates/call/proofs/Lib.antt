@@ -11,3 +11,4 @@ pub mod Heard
 pub mod Told
 pub mod Recalled
 pub mod Waits
+pub mod Identifiers

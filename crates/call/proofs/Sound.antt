@@ -7,7 +7,7 @@ use lib.Dec.{T, eqb, eqb→eq, leb→le, T-not, not-T}
 use Rattle.ground.proofs.Bools.{and-l, and-r, and-i, by-cases, is-true, from-true}
 use Rattle.call.specs.declared.Call.{Call}
 use Rattle.call.specs.Record.{isFree, isOutgoing, isIncoming, requested, freeCall}
-use Rattle.call.specs.Soundness.{outgoingUnused, incomingUnused, outgoingCodes, partyThere, waitingHolds, historyHolds, divertHolds, soundOutgoing, incomingCodes, ownThere, cdfHolds, numbersHold, requestHolds, excludes, waitHolds, startHolds, soundIncoming, soundCall}
+use Rattle.call.specs.Soundness.{outgoingUnused, incomingUnused, outgoingCodes, partyThere, waitingHolds, historyHolds, divertHolds, soundOutgoing, incomingCodes, ownThere, cdfHolds, numbersHold, requestHolds, identifierThere, excludes, waitHolds, startHolds, soundIncoming, soundCall}
 
 pub record Outgoing (c : Call) : Type 0 where
   pub direction : T (isOutgoing c)
@@ -26,6 +26,7 @@ pub record Incoming (last : ℕ) (c : Call) : Type 0 where
   pub cdf : T (cdfHolds c)
   pub numbers : T (numbersHold c)
   pub request : T (requestHolds c)
+  pub identifier : T (identifierThere c)
   pub apart : T (excludes c)
   pub wait : T (waitHolds c)
   pub start : T (startHolds last c)
@@ -105,7 +106,7 @@ outgoing-of last c h d = let g : T (soundOutgoing c) = rw (eqb→eq (c .directio
 
 pub incoming-of : (last : ℕ) (c : Call) → T (soundCall last c) → T (isIncoming c) → Incoming last c
 unfolding soundCall soundIncoming
-incoming-of last c h d = let g : T (soundIncoming last c) = rw (eqb→eq (c .direction) 2 d) at h in search parts depth 11
+incoming-of last c h d = let g : T (soundIncoming last c) = rw (eqb→eq (c .direction) 2 d) at h in search parts depth 12
 
 pub free-sound : (last : ℕ) → T (soundCall last freeCall)
 unfolding soundCall
@@ -117,7 +118,7 @@ outgoing-sound last {c} w = let g : T (soundOutgoing c) = search and-i depth 8 i
 
 pub incoming-sound : {last : ℕ} {c : Call} → Incoming last c → T (soundCall last c)
 unfolding soundCall soundIncoming
-incoming-sound {last} {c} w = let g : T (soundIncoming last c) = search and-i depth 11 in rw (eqb→eq (c .direction) 2 (w .direction)) g
+incoming-sound {last} {c} w = let g : T (soundIncoming last c) = search and-i depth 12 in rw (eqb→eq (c .direction) 2 (w .direction)) g
 
 pub sound-view : (last : ℕ) (c : Call) → T (soundCall last c) → Sound last c
 unfolding soundCall

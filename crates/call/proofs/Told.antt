@@ -194,14 +194,14 @@ open-history identifier c e t =
     rw (is-true (opens e) t) (when-has (λ (x : Effect). x .call .history ≡ noHistory) (eqb (e .kind) 1) (λ _. refl) (λ _. refl))
 
 -- an event that a sound record takes
-pub act-told : (last identifier : ℕ) (l : List Told) (c : Call) (e : Event) → T (soundCall last c) → last ≤ e .time → T (wellMade e)
-    → T (addressed c e) → T (not (stateForbids c e)) → Remembers l (c .history) → TellsOf l c e (act c e identifier)
-act-told last identifier l c e h t f a n m =
+pub act-told : (last identifier : ℕ) (l : List Told) (c : Call) (e : Event) → T (not (eqb identifier 0)) → T (soundCall last c) → last ≤ e .time
+    → T (wellMade e) → T (addressed c e) → T (not (stateForbids c e)) → Remembers l (c .history) → TellsOf l c e (act c e identifier)
+act-told last identifier l c e z h t f a n m =
     let d : Call = act c e identifier .call in
     let x = hears last identifier l c e h a n m (made e f) in
     let empty : T (opens e || isFree d) → d .history ≡ noHistory = λ o.
     by-cases (opens e) (λ y. open-history identifier c e (from-true (opens e) y))
-    (λ y. ap (λ (z : Call). z .history) (free-of (e .time) d (act-kept last identifier c e h t f a n) (or-right (opens e) (isFree d) (T-not (opens e) (from-false (opens e) y)) o))) in
+    (λ y. ap (λ (x : Call). x .history) (free-of (e .time) d (act-kept last identifier c e z h t f a n) (or-right (opens e) (isFree d) (T-not (opens e) (from-false (opens e) y)) o))) in
     record {
       learns = x .learns;
       remembers = when-has (λ (z : List Told). Remembers z (d .history)) (opens e || isFree d) (λ o. rw (empty o) none-told) (x .kept);

@@ -8,3 +8,4 @@ pub mod Outgoing
 pub mod Act
 pub mod Stricter
 pub mod Told
+pub mod Identifiers

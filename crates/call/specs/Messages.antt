@@ -6,7 +6,7 @@ use Rattle.call.specs.declared.Message.{Message}
 use Rattle.call.specs.declared.Sent.{Sent}
 use Rattle.call.specs.declared.Effect.{Effect}
 
--- no identifier: 0 is one, so none is the number past the last
+-- no identifier: 0 is one, of an invoke that is received, so none is the number past the last
 abbrev pub noIdentifier : ℕ
 noIdentifier = 65536
 

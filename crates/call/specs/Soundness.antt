@@ -91,6 +91,10 @@ abbrev pub requestHolds : Call → Bool
 requestHolds c =
     (requested c || granted c || eqb (c .reason) 0) && (requested c || (eqb (c .identifier) 0 && eqb (c .start) 0))
 
+-- document 02, Three: "an open request with 0 .. is 1"
+abbrev pub identifierThere : Call → Bool
+identifierThere c = only (requested c) (not (eqb (c .identifier) 0))
+
 -- "Requested and granted exclude each other and Active, their reason fits the basic state"
 abbrev pub excludes : Call → Bool
 excludes c =
@@ -108,8 +112,8 @@ startHolds last c = leb (c .start) last
 -- "Incoming: .."
 unfoldable pub soundIncoming : ℕ → Call → Bool
 soundIncoming last c =
-    outgoingUnused c && incomingCodes c && ownThere c && cdfHolds c && numbersHold c && requestHolds c && excludes c
-    && waitHolds c && startHolds last c
+    outgoingUnused c && incomingCodes c && ownThere c && cdfHolds c && numbersHold c && requestHolds c
+    && identifierThere c && excludes c && waitHolds c && startHolds last c
 
 -- one record is sound, where the station's last time is given
 unfoldable pub soundCall : ℕ → Call → Bool

@@ -5,7 +5,7 @@ ghost use mathlib.Core.Bool.{_&&_};
 ghost use Prim.Native.Nat.{ℕ, _≤_, _<_};
 ghost use lib.Dec.{leb};
 ghost use lib.ListN.{take};
-ghost use Rattle.station.specs.Station.{limitOk};
+ghost use Rattle.station.specs.Station.{limitOk, nextOk};
 ghost use Rattle.station.specs.Step.{answerOf};
 ghost use Rattle.decide.specs.Decided.{namedRefusal, nextWith, stationWith, unchanged, refusedAs, idleAs, settledAs, decidedAt, decidedOnSound, decidedIn};
 use call::Call;
@@ -201,11 +201,11 @@ pub fn decided_on_sound(calls: [Call; 64], len: usize, input: Input) -> Decision
     decided_at(s, c, e, i, s.next)
 }
 
-// "1 to 64 call records", and a limit of 1 to 15.
-pub fn in_bounds(len: usize, limit: u8) -> bool
-    ensures { λ r. ⌜ r ≡ ((leb 1 len && leb len 64) && limitOk limit) ⌝ }
+// "1 to 64 call records", a limit of 1 to 15, and a next identifier that is not 0.
+pub fn in_bounds(len: usize, limit: u8, next: u16) -> bool
+    ensures { λ r. ⌜ r ≡ ((leb 1 len && leb len 64) && (limitOk limit && nextOk next)) ⌝ }
 {
-    (1 <= len) & (len <= 64) & ((1 <= limit) & (limit <= 15))
+    (1 <= len) & (len <= 64) & ((1 <= limit) & (limit <= 15) & !(next == 0))
 }
 
 // One event on any table: the table, the clock and the event are tested.
@@ -213,7 +213,7 @@ pub fn decided(calls: [Call; 64], len: usize, input: Input) -> Decision
     ensures { λ r. ⌜ r ≡ decidedIn calls len input ⌝ }
 {
     let s = input.station;
-    if in_bounds(len, s.limit) {
+    if in_bounds(len, s.limit, s.next) {
         if table::sound_table(calls, len, s.last) {
             return decided_on_sound(calls, len, input);
         }

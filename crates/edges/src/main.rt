@@ -16,6 +16,7 @@ fn main() {
     records::wrapped();
     tables::lengths();
     tables::limits();
+    tables::zeros();
     tables::fresh_codes();
     tables::damaged_outgoing();
     tables::damaged_incoming();

@@ -43,7 +43,7 @@ pub fn all_used() {
     on(s, open_incoming(102, 5));
 }
 
-// Identifiers 65516 to 65535 and 0 to 19 are open. The next one is set among them: it goes past all of them; after one request
+// Identifiers 65516 to 65535 and 1 to 20 are open. The next one is set among them: it goes past all of them; after one request
 // has ended, its identifier is the first that is free, and the one after it goes past the rest again.
 pub fn wrapped() {
     say(b"# the wrap, 40 requests\n");

@@ -46,6 +46,22 @@ pub fn limits() {
     on(s, reroute(2, 15, 7));
 }
 
+// Document 02, Three: a next identifier 0 and an open request with 0 are 1, whatever the event is; with next 1 the station is sound.
+pub fn zeros() {
+    say(b"# identifier 0, kept\n");
+    let mut s = fresh();
+    s.board.station.next = 0;
+    let s = on(s, clock(1));
+    let mut s = on(s, open_incoming(102, 1));
+    s.board.station.next = 1;
+    let s = on(s, clock(1));
+    let s = on(s, open_incoming(102, 2));
+    on(s, divert(0, 3));
+    let mut c = asked();
+    c.identifier = 0;
+    ticked(c, 5);
+}
+
 fn fresh_code(limit: u8) {
     let made = station::fresh(limit);
     io::print_decimal(1, made.code as u64);

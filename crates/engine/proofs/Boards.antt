@@ -25,13 +25,13 @@ use Rattle.decide.proofs.Tested.{bounds, short, soundRecords, sound-parts}
 use Rattle.engine.specs.Board.{lent, putBack, soundBoard, appliedTo}
 
 -- the test behind number 1, in the order of the code
-pub board-tested : (b : Board) (t r : Bool) → length (b .calls) ≡ 64 → t ≡ bounds (b .len) (b .station .limit) → t ≡ true
+pub board-tested : (b : Board) (t r : Bool) → length (b .calls) ≡ 64 → t ≡ bounds (b .len) (b .station) → t ≡ true
     → r ≡ soundRecords (b .station .last) (lent b) → r ≡ soundBoard b
 board-tested b t r e q z p =
-    let h = short (b .len) (b .station .limit) t q z in
+    let h = short (b .len) (b .station) t q z in
     sym (rw (le-ltb 64 (b .len) h) (sound-parts (b .station) (b .calls) (b .len) h e ∙ rw (← q, z, ← p)))
 
-pub board-unfit : (b : Board) (t : Bool) → length (b .calls) ≡ 64 → t ≡ bounds (b .len) (b .station .limit) → t ≡ false → false ≡ soundBoard b
+pub board-unfit : (b : Board) (t : Bool) → length (b .calls) ≡ 64 → t ≡ bounds (b .len) (b .station) → t ≡ false → false ≡ soundBoard b
 board-unfit b t e q z =
     by-cases (ltb 64 (b .len)) (λ l. rw l) (λ l.
     sym (rw l (sound-parts (b .station) (b .calls) (b .len) (ltb-false 64 (b .len) l) e ∙ rw (← q, z))))

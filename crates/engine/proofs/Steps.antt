@@ -98,7 +98,9 @@ module _ (b : Board) (d : Desk) (e : Event) (p : Passed b d e) where
       same-next : (identifier : ℕ) → identifier ≡ identifierIn e (d .held) (b .station .next) → nextWith e identifier (b .station .next) ≡ nextAfter (b .station) (lent b) e
       same-next identifier q =
           by-cases (diverts e)
-          (λ t. rw t (ap after (q ∙ rw t (found-identifier (b .len) (b .calls) (p .short) (p .long) d (p .kept) (b .station .next)))))
+          (λ t.
+          let k : identifier ≡ identifierFor (b .station) (lent b) = q ∙ rw t (found-identifier (b .len) (b .calls) (p .short) (p .long) d (p .kept) (b .station .next)) in
+          rw t (ap after k))
           (λ t. rw t)
 
       pub done-step : (r identifier : ℕ) → r ≡ namedRefusal (b .station) (getD (b .calls) (e .call) freeCall) e → r ≡ 0

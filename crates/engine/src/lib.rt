@@ -44,7 +44,8 @@ pub fn sound_board(b: Board) -> bool
     let calls = b.calls;
     let last = b.station.last;
     let limit = b.station.limit;
-    if decide::in_bounds(len, limit) {
+    let next = b.station.next;
+    if decide::in_bounds(len, limit, next) {
         return table::sound_table(calls, len, last);
     }
     false
@@ -95,7 +96,7 @@ pub fn step(b: Board, e: Event) -> Stepped
         station: station,
         event: e,
     };
-    if decide::in_bounds(b.len, station.limit) {
+    if decide::in_bounds(b.len, station.limit, station.next) {
         if table::sound_table(calls, b.len, station.last) {
             let d = decide::decided_on_sound(calls, b.len, input);
             return applied(b, d);

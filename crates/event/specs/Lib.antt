@@ -1,3 +1,4 @@
 pub mod Kinds
 pub mod Record
 pub mod WellMade
+pub mod Identifiers

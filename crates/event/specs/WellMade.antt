@@ -34,11 +34,11 @@ divertFields e =
     eqb (e .leg) 0 && eqb (e .message) 0 && leb 1 (e .reason) && leb (e .reason) 3 && leb (e .option) 2 && eqb (e .counter) 0
     && eqb (e .flag) 0 && eqb (e .identifier) 0 && eqb (e .first) 0 && not (eqb (e .second) 0) && eqb (e .third) 0
 
--- "7, 8 callRerouting result; error or reject: call; identifier"
+-- "7, 8 callRerouting result; error or reject: call; identifier"; document 02, Three: "a kind 7 or 8 event with identifier 0 is 3"
 abbrev pub outcomeFields : Event → Bool
 outcomeFields e =
     eqb (e .leg) 0 && eqb (e .message) 0 && eqb (e .reason) 0 && eqb (e .option) 0 && eqb (e .counter) 0 && eqb (e .flag) 0
-    && eqb (e .first) 0 && eqb (e .second) 0 && eqb (e .third) 0
+    && not (eqb (e .identifier) 0) && eqb (e .first) 0 && eqb (e .second) 0 && eqb (e .third) 0
 
 -- "10 clock: none"
 abbrev pub clockFields : Event → Bool
@@ -47,7 +47,7 @@ clockFields e =
     && eqb (e .flag) 0 && eqb (e .identifier) 0 && eqb (e .first) 0 && eqb (e .second) 0 && eqb (e .third) 0
 
 -- "12 callRerouting invoke received: call; leg 1 or 2; reason 1 to 3; option 0 to 2; counter 1 to 15; identifier;
--- second: destination, not 0; third: original called or 0"
+-- second: destination, not 0; third: original called or 0"; document 02, Three: "Received invokes may still bear 0"
 abbrev pub reroutingFields : Event → Bool
 reroutingFields e =
     leb 1 (e .leg) && leb (e .leg) 2 && eqb (e .message) 0 && leb 1 (e .reason) && leb (e .reason) 3 && leb (e .option) 2

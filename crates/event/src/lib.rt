@@ -135,6 +135,7 @@ fn outcome_fields(e: Event) -> bool
         & (e.option == 0)
         & (e.counter == 0)
         & (e.flag == 0)
+        & !(e.identifier == 0)
         & (e.first == 0)
         & (e.second == 0)
         & (e.third == 0)

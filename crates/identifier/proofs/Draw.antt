@@ -1,4 +1,4 @@
--- The identifier drawn is the first free one from the next on, and small. Assumes nothing.
+-- The identifier drawn is the first free one from the next on, small and not 0. Assumes nothing.
 use Prim.Native.Nat.{ℕ, zero, suc, _≤_, _<_, zero-le, suc-le-suc}
 use native.Mathlib.Nat.{le-of-suc-le-suc, not-suc-le-zero}
 use native.Mathlib.Omega.{arith}
@@ -8,8 +8,9 @@ use mathlib.Core.List.{List}
 use lib.Dec.{T}
 use Rattle.ground.proofs.Bools.{when-has}
 use Rattle.identifier.specs.Identifier.{after, taken, firstFree, candidates, drawn}
-use Rattle.identifier.specs.Statements.{candidate, First, Free, DrawsFirst, OnlyFirst, DrawsSmall}
-use Rattle.identifier.proofs.Pigeon.{after-small, crowded}
+use Rattle.identifier.specs.Statements.{candidate, First, Free, DrawsFirst, OnlyFirst, DrawsSmall, DrawsThere}
+use Rattle.identifier.proofs.After.{after-there, after-small}
+use Rattle.identifier.proofs.Pigeon.{crowded}
 
 -- the search of so many candidates: where it stops, that all before are taken, and that what it gives is taken only past them all
 record Searched (more next : ℕ) (held : List ℕ) : Type 0 where
@@ -67,3 +68,13 @@ first-small (suc more) next held h =
 
 pub drawn-small : DrawsSmall
 drawn-small held next h = first-small candidates next held h
+
+first-there : (more next : ℕ) (held : List ℕ) → (next ≡ 0 → ⊥) → firstFree more held next ≡ 0 → ⊥
+unfolding firstFree
+first-there zero next held n = n
+first-there (suc more) next held n =
+    let l = first-there more (after next) held (after-there next) in
+    when-has (λ x. x ≡ 0 → ⊥) (taken held next) (λ t. l) (λ t. n)
+
+pub drawn-there : DrawsThere
+drawn-there held next n = first-there candidates next held n

@@ -1,3 +1,4 @@
+pub mod After
 pub mod Pigeon
 pub mod Draw
 pub mod Reading

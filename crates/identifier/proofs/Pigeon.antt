@@ -1,5 +1,5 @@
 -- So many candidates in a row, each taken, want as many open requests. Assumes nothing.
-use Prim.Native.Nat.{ℕ, zero, suc, _+_, _%_, _≤_, _<_, zero-le, suc-le-suc}
+use Prim.Native.Nat.{ℕ, zero, suc, _≤_, _<_, zero-le, suc-le-suc}
 use native.Mathlib.Omega.{arith}
 use mathlib.Core.Path.{_≡_, refl, ap, sym, _∙_}
 use mathlib.Core.Bool.{Bool, true, false, _||_}
@@ -10,24 +10,8 @@ use Rattle.ground.specs.Choice.{when_then_else_}
 use Rattle.ground.specs.Lists.{any}
 use Rattle.ground.proofs.Bools.{or-right}
 use Rattle.identifier.specs.Identifier.{after, taken}
-use Rattle.identifier.specs.Statements.{candidate, AfterSmall}
-
-pub after-small : AfterSmall
-after-small k = omega arith
-
-candidate-sum : (k i : ℕ) → k < 65536 → candidate k i ≡ (k + i) % 65536
-unfolding candidate
-candidate-sum k zero a = omega arith
-candidate-sum k (suc i) a = candidate-sum (after k) i (after-small k) ∙ sums
-  where
-    sums : (after k + i) % 65536 ≡ (k + suc i) % 65536
-    sums = omega arith
-
--- none of the 65,535 after k is k again; a first one past 65,535 never comes again
-not-again : (k i : ℕ) → i < 65535 → candidate (after k) i ≡ k → ⊥
-not-again k i h e =
-    let s = candidate-sum (after k) i (after-small k) in
-    omega arith
+use Rattle.identifier.specs.Statements.{candidate}
+use Rattle.identifier.proofs.After.{not-again}
 
 -- the list without the first place of k
 abbrev without : ℕ → List ℕ → List ℕ
@@ -59,7 +43,7 @@ still j k (x ∷ xs) n h = go (eqb k x) (λ b a. n (eqb→eq j x a ∙ sym (eqb�
     go false f ih = or-map (eqb j x) (taken xs j) (taken (without k xs) j) ih h
 
 -- the pigeonhole
-pub crowded : (n k : ℕ) (held : List ℕ) → n ≤ 65536 → ((i : ℕ) → i < n → T (taken held (candidate k i))) → n ≤ length held
+pub crowded : (n k : ℕ) (held : List ℕ) → n ≤ 65535 → ((i : ℕ) → i < n → T (taken held (candidate k i))) → n ≤ length held
 unfolding candidate
 crowded zero k held b f = zero-le
 crowded (suc n) k held b f =

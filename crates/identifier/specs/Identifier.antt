@@ -1,5 +1,5 @@
--- "The request takes the first identifier from the next one on that no open request has; the one after it is next, and
--- the number after 65,535 is 0."
+-- "The request takes the first identifier from the next one on that no open request has; the one after it is next". Document 02,
+-- Three: "From now on the number after 65,535 is 1".
 use Prim.Native.Nat.{ℕ, zero, suc, _+_, _%_}
 use mathlib.Core.Bool.{Bool, true, _&&_, not}
 use mathlib.Core.List.{List, [], _∷_}
@@ -7,9 +7,11 @@ use lib.Dec.{eqb}
 use Rattle.ground.specs.Choice.{when_then_else_}
 use Rattle.ground.specs.Lists.{any}
 
--- "the number after 65,535 is 0"
+-- document 02, Three: "the number after 65,535 is 1": a sum on 16 bits, and 1 where it gives 0, which is no identifier of ours
 abbrev pub after : ℕ → ℕ
-after identifier = (identifier + 1) % 65536
+after identifier =
+    let sum = (identifier + 1) % 65536 in
+    when eqb sum 0 then 1 else sum
 
 -- some open request has it
 abbrev pub taken : List ℕ → ℕ → Bool

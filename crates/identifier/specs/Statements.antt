@@ -1,6 +1,7 @@
--- What the draw of an identifier and the test `distinct` amount to, for any list of identifiers of open requests. The
--- theorems are in proofs/Draw and proofs/Reading; proofs/Joined and proofs/Gathered have the laws for a table.
-use Prim.Native.Nat.{ℕ, zero, suc, _≤_, _<_}
+-- What the number after an identifier, the draw of one and the test `distinct` amount to, for any list of identifiers of open
+-- requests. The theorems are in proofs/After, proofs/Draw and proofs/Reading; proofs/Joined and proofs/Gathered have the laws for
+-- a table.
+use Prim.Native.Nat.{ℕ, zero, suc, _+_, _≤_, _<_}
 use mathlib.Core.Path.{_≡_}
 use mathlib.Core.Bool.{true}
 use mathlib.Core.Logic.{_↔_}
@@ -13,6 +14,22 @@ use Rattle.identifier.specs.Identifier.{after, taken, distinct, drawn}
 unfoldable pub candidate : ℕ → ℕ → ℕ
 candidate next zero = next
 candidate next (suc steps) = candidate (after next) steps
+
+-- document 02, Three: "From now on the number after 65,535 is 1"; each smaller one is followed by the next number
+pub record Follows : Type 0 where
+  pub last : after 65535 ≡ 1
+  pub others : (identifier : ℕ) → identifier < 65535 → after identifier ≡ identifier + 1
+
+-- so none of them is 0
+abbrev pub AfterThere : Type 0
+AfterThere = (identifier : ℕ) → after identifier ≡ 0 → ⊥
+
+-- 65,535 candidates in a row are all different, and then the first comes again
+abbrev pub CandidatesApart : Type 0
+CandidatesApart = (next i j : ℕ) → i < 65535 → j < 65535 → candidate next i ≡ candidate next j → i ≡ j
+
+abbrev pub ComesAgain : Type 0
+ComesAgain = (next : ℕ) → (next ≡ 0 → ⊥) → next < 65536 → candidate next 65535 ≡ next
 
 -- "the first identifier from the next one on that no open request has": all that lie before it are taken, and it is not
 pub record First (held : List ℕ) (next identifier : ℕ) : Type 0 where
@@ -38,6 +55,10 @@ DrawsSmall = (held : List ℕ) (next : ℕ) → next < 65536 → drawn held next
 
 abbrev pub AfterSmall : Type 0
 AfterSmall = (identifier : ℕ) → after identifier < 65536
+
+-- drawn from a next one that is not 0 it is not 0, whatever is open
+abbrev pub DrawsThere : Type 0
+DrawsThere = (held : List ℕ) (next : ℕ) → (next ≡ 0 → ⊥) → drawn held next ≡ 0 → ⊥
 
 -- "no two Requested records share an identifier", place by place
 abbrev pub Apart : List ℕ → Type 0

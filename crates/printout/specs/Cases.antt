@@ -36,7 +36,7 @@ event kind call leg message reason option counter flag identifier first second t
 
 -- "Input: kind 1 (party 101, time 1); 12 (call 0, leg 1, cfu, option 2, counter 1, identifier 9, destination 207, time 2);
 -- 14 (call 0, leg 1, CONNECT, flag 1, time 3); 2 (102, time 4); 6 (call 1, cfu, option 0, destination 300, time 1000);
--- 10 (10999); 10 (11000); 6 as before (11001); 7 (call 1, identifier 65535, 11002)."
+-- 10 (10999); 10 (11000); 6 as before (11001); 7 (call 1, identifier 65535, 11002)." Document 02, Three: "line 7 has identifier 1".
 abbrev pub nineEvents : List Event
 nineEvents =
     event 1 0 0 0 0 0 0 0 0 101 0 0 1
@@ -72,7 +72,7 @@ expectedP =
     ∷ "4 0 1 - - 65535 1 I1\n"
     ∷ "5 0 - - - - - -\n"
     ∷ "6 0 1 - - 65535 - -\n"
-    ∷ "7 0 1 - - 0 1 I1\n"
+    ∷ "7 0 1 - - 1 1 I1\n"
     ∷ "8 6 - - - - - -\n"
     -- counter 14 and limit 15 diverts with 15
     ∷ "0 0 0 - - - - -\n"

@@ -3,7 +3,7 @@ ghost use mathlib.Core.Path.{_≡_};
 ghost use mathlib.Core.Bool.{_&&_};
 ghost use lib.Dec.{eqb};
 ghost use Rattle.call.specs.Record.{fits as fitsState};
-ghost use Rattle.call.specs.Soundness.{dli1Unused, historyUnused, outgoingUnused, incomingUnused, outgoingCodes, waitingHolds, historyHolds, divertHolds, soundOutgoing, incomingCodes, cdfHolds, numbersHold, requestHolds, excludes as excludesHold, waitHolds, soundIncoming, soundCall};
+ghost use Rattle.call.specs.Soundness.{dli1Unused, historyUnused, outgoingUnused, incomingUnused, outgoingCodes, waitingHolds, historyHolds, divertHolds, soundOutgoing, incomingCodes, cdfHolds, numbersHold, requestHolds, identifierThere, excludes as excludesHold, waitHolds, soundIncoming, soundCall};
 use call::Call;
 use notice::Dli1;
 use notice::History;
@@ -124,6 +124,13 @@ fn request_holds(c: Call) -> bool
         & (requested | ((c.identifier == 0) & (c.start == 0)))
 }
 
+// Document 02, Three: "an open request with 0 .. is 1"
+fn identifier_there(c: Call) -> bool
+    ensures { λ r. ⌜ r ≡ identifierThere c ⌝ }
+{
+    !(c.cds == 1) | !(c.identifier == 0)
+}
+
 // "reason fits the basic state (cfu and cfb Proceeding, cfnr Received)"
 pub fn fits(reason: u8, c: Call) -> bool
     ensures { λ r. ⌜ r ≡ fitsState reason c ⌝ }
@@ -156,6 +163,7 @@ fn sound_incoming(c: Call, last: u64) -> bool
         & cdf_holds(c)
         & numbers_hold(c)
         & request_holds(c)
+        & identifier_there(c)
         & excludes(c)
         & wait_holds(c)
         & (c.start <= last)

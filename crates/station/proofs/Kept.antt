@@ -3,27 +3,29 @@ use Prim.Native.Nat.{ℕ, zero, suc, _<_}
 use mathlib.Core.Path.{_≡_, refl}
 use mathlib.Core.Bool.{Bool, true}
 use mathlib.Core.List.{List, [], _∷_}
-use lib.Dec.{T, le→leb}
+use lib.Dec.{T, eqb, eqb→eq, le→leb, not-T}
 use lib.ListN.{length, set, length-set, replicate, length-replicate}
 use Rattle.ground.specs.Lists.{all}
-use Rattle.ground.proofs.Bools.{and-l, and-r, and-i, is-true, from-true}
+use Rattle.ground.proofs.Bools.{and-l, and-r, and-i, is-true, from-true, when-has}
 use Rattle.ground.proofs.Walks.{all-set}
 use Rattle.event.specs.declared.Event.{Event}
-use Rattle.identifier.specs.Identifier.{taken, distinct}
+use Rattle.event.specs.Kinds.{diverts}
+use Rattle.identifier.specs.Identifier.{after, taken, distinct}
+use Rattle.identifier.proofs.After.{after-there}
 use Rattle.call.specs.declared.Call.{Call}
 use Rattle.call.specs.Record.{freeCall, requested}
 use Rattle.call.specs.Soundness.{soundCall}
 use Rattle.call.specs.Act.{act}
 use Rattle.call.proofs.Kept.{sound-later, act-kept, act-request}
 use Rattle.station.specs.declared.Station.{Station}
-use Rattle.station.specs.Station.{freshStation}
+use Rattle.station.specs.Station.{nextOk, freshStation}
 use Rattle.station.specs.Table.{at, requestsOf, sound, identifierFor, place}
-use Rattle.station.specs.Step.{Outcome, stationAfter, effectAt, step, outcomes, runStep, runOn}
+use Rattle.station.specs.Step.{Outcome, nextAfter, stationAfter, effectAt, step, outcomes, runStep, runOn}
 use Rattle.station.specs.Demand2.{StepSound, OutcomesSound, RunSound, FreshSound}
 use Rattle.station.proofs.Numbers.{Passed}
 use Rattle.station.proofs.Stepped.{Stepped, refuses, settles, passes, stepped}
 use Rattle.station.proofs.Whole.{Whole, whole, sound-of, record-sound}
-use Rattle.station.proofs.Requests.{requests-set, sound-draws}
+use Rattle.station.proofs.Requests.{requests-set, sound-draws, drawn-passes}
 use Rattle.station.proofs.Addressed.{addressed-there}
 
 -- what each element of a list keeps
@@ -40,10 +42,17 @@ module _ (s : Station) (calls : List Call) (e : Event) (p : Passed s calls e) wh
   records-later : T (all (soundCall (e .time)) calls)
   records-later = all-later (soundCall (s .last)) (soundCall (e .time)) (λ c h. sound-later (s .last) (e .time) c (p .timely) h) calls (w .records)
 
+  -- the next identifier is not 0, which follows no number
+  next-kept : T (nextOk (nextAfter s calls e))
+  next-kept =
+      let k = identifierFor s calls in
+      let n : T (nextOk (after k)) = not-T (eqb (after k) 0) (λ t. after-there k (eqb→eq (after k) 0 t)) in
+      when-has (λ (k : ℕ). T (nextOk k)) (diverts e) (λ _. n) (λ _. w .next)
+
   passes-sound : T (sound (stationAfter s calls e) calls)
   passes-sound =
       sound-of (stationAfter s calls e) calls
-      (record { some = w .some; few = w .few; limit = w .limit; records = records-later; apart = w .apart })
+      (record { some = w .some; few = w .few; limit = w .limit; next = next-kept; records = records-later; apart = w .apart })
 
   settles-sound : place calls e < length calls
       → T (sound (stationAfter s calls e) (set calls (place calls e) (effectAt s calls e (place calls e) .call)))
@@ -54,7 +63,7 @@ module _ (s : Station) (calls : List Call) (e : Event) (p : Passed s calls e) wh
       let x = act c e k .call in
       let (a, b) = addressed-there s calls e p in
       let h = record-sound s calls (p .whole) i l in
-      let g : T (soundCall (e .time) x) = act-kept (s .last) k c e h (p .timely) (p .made) a b in
+      let g : T (soundCall (e .time) x) = act-kept (s .last) k c e (drawn-passes s calls (p .whole)) h (p .timely) (p .made) a b in
       let r : all (soundCall (e .time)) (set calls i x) ≡ true =
       all-set (soundCall (e .time)) calls i x (is-true (all (soundCall (e .time)) calls) records-later) (is-true (soundCall (e .time) x) g) in
       let n = length-set calls i x in
@@ -65,6 +74,7 @@ module _ (s : Station) (calls : List Call) (e : Event) (p : Passed s calls e) wh
         some = rw n (w .some);
         few = rw n (w .few);
         limit = w .limit;
+        next = next-kept;
         records = from-true (all (soundCall (e .time)) (set calls i x)) r;
         apart = requests-set calls i x l (w .apart) f;
       })
@@ -106,4 +116,4 @@ unfolding distinct
 fresh-sound limit n h a b =
     let l = length-replicate n freeCall in
     sound-of (freshStation limit) (replicate n freeCall)
-    (record { some = rw l (le→leb 1 n a); few = rw l (le→leb n 64 b); limit = h; records = all-free n 0; apart = rw (none-asked n) tt })
+    (record { some = rw l (le→leb 1 n a); few = rw l (le→leb n 64 b); limit = h; next = tt; records = all-free n 0; apart = rw (none-asked n) tt })

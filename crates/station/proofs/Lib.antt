@@ -16,3 +16,4 @@ pub mod Shared
 pub mod Demand3
 pub mod Lives
 pub mod Told
+pub mod There

@@ -2,9 +2,9 @@
 use Prim.Native.Nat.{ℕ, zero, suc, _≤_, _<_, zero-le, suc-le-suc}
 use native.Mathlib.Omega.{arith}
 use mathlib.Core.Path.{_≡_, refl, ap, sym}
-use mathlib.Core.Bool.{Bool, true, false, _||_}
+use mathlib.Core.Bool.{Bool, true, false, not, _||_}
 use mathlib.Core.List.{List, [], _∷_, _++_}
-use lib.Dec.{T, eqb, eqb→eq, leb→le}
+use lib.Dec.{T, eqb, eqb→eq, leb→le, T-not, not-T}
 use lib.ListN.{length, set}
 use Rattle.ground.specs.Choice.{when_then_else_}
 use Rattle.ground.specs.Lists.{any}
@@ -16,8 +16,9 @@ use Rattle.identifier.proofs.Gathered.{distinct-set}
 use Rattle.identifier.proofs.Reading.{head-apart, tail-distinct, distinct-cons}
 use Rattle.call.specs.declared.Call.{Call}
 use Rattle.call.specs.Record.{freeCall, requested}
-use Rattle.station.specs.Table.{at, requestsOf, openIdentifiers, identifierFor}
-use Rattle.station.specs.Demand2.{Open, Apart, DistinctReads, SoundApart, SoundDraws}
+use Rattle.station.specs.declared.Station.{Station}
+use Rattle.station.specs.Table.{at, requestsOf, openIdentifiers, sound, identifierFor}
+use Rattle.station.specs.Demand2.{Open, Apart, DistinctReads, SoundApart, SoundDraws, DrawnThere}
 use Rattle.station.proofs.Whole.{whole}
 
 -- a place of the rest is the next place of the whole
@@ -137,3 +138,11 @@ sound-draws s calls h =
     let f = draw.first held (s .next) few in
     let n : 65 ≤ f .steps → ⊥ = λ l. let c = crowded 65 (s .next) held (omega arith) (λ i g. f .before i (omega arith)) in omega arith in
     record { first = f; near = omega arith; free = λ i o. f .free (taken-at calls i (identifierFor s calls) o); only = λ k g. draw.only held (s .next) k few g }
+
+pub drawn-there : DrawnThere
+drawn-there s calls h =
+    draw.drawn-there (openIdentifiers s calls) (s .next) (λ z. T-not (eqb (s .next) 0) (whole s calls h .next) (eq→eqb (s .next) 0 z))
+
+-- the same as a test
+pub drawn-passes : (s : Station) (calls : List Call) → T (sound s calls) → T (not (eqb (identifierFor s calls) 0))
+drawn-passes s calls h = not-T (eqb (identifierFor s calls) 0) (λ t. drawn-there s calls h (eqb→eq (identifierFor s calls) 0 t))

@@ -25,6 +25,7 @@ use Rattle.station.specs.Demand3.{acts}
 use Rattle.station.specs.Told.{news, toldAfter, Fits, ByLists, over, onward, RunsByLists, nothingTold, FreshByLists, SoundFits}
 use Rattle.station.proofs.Numbers.{Passed, passed}
 use Rattle.station.proofs.Whole.{record-sound}
+use Rattle.station.proofs.Requests.{drawn-passes}
 use Rattle.station.proofs.Addressed.{addressed-there}
 use Rattle.station.proofs.Places.{others-stay}
 use Rattle.station.proofs.Kept.{step-sound, fresh-sound}
@@ -38,7 +39,7 @@ module _ (told : ℕ → List Told) (s : Station) (calls : List Call) (e : Event
       let p : Passed s calls e = passed s calls e (eqb→eq (refusal s calls e) 0 (and-l (eqb (refusal s calls e) 0) (ltb i (length calls)) u)) in
       let l = ltb→lt i (length calls) (and-r (eqb (refusal s calls e) 0) (ltb i (length calls)) u) in
       let (a, b) = addressed-there s calls e p in
-      act-told (s .last) (identifierFor s calls) (told i) (at calls i) e (record-sound s calls (p .whole) i l) (p .timely) (p .made) a b (fits i)
+      act-told (s .last) (identifierFor s calls) (told i) (at calls i) e (drawn-passes s calls (p .whole)) (record-sound s calls (p .whole) i l) (p .timely) (p .made) a b (fits i)
 
   learns : Learns (told (place calls e)) (news s calls e) (step s calls e .answer .notice) (step s calls e .answer .number)
   learns =

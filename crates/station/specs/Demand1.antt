@@ -1,7 +1,7 @@
 -- Demand 1: the number of an answer is the page's, and what a refusal and a done event leave. The theorems are in
--- proofs/Demand1. That every event has an answer is the contract of the code's `step`, which ends on every input and gives what
+-- proofs/Demand1 and There. That every event has an answer is the contract of the code's `step`, which ends on every input and gives what
 -- `step` gives here.
-use Prim.Native.Nat.{ℕ, zero, suc, _<_}
+use Prim.Native.Nat.{ℕ, zero, suc, _≤_, _<_}
 use mathlib.Core.Path.{_≡_}
 use mathlib.Core.Bool.{Bool, false, not}
 use mathlib.Core.Logic.{_↔_}
@@ -9,6 +9,7 @@ use mathlib.Core.List.{List, [], _∷_}
 use lib.Dec.{T}
 use lib.ListN.{getD}
 use Rattle.event.specs.declared.Event.{Event}
+use Rattle.event.specs.Kinds.{answersRequest}
 use Rattle.call.specs.declared.Call.{Call}
 use Rattle.station.specs.declared.Station.{Station}
 use Rattle.station.specs.Station.{emptyAnswer}
@@ -41,6 +42,12 @@ codeOf s calls e = step s calls e .answer .code
 -- "Given exactly when"
 abbrev pub NumberExact : Type 0
 NumberExact = (s : Station) (calls : List Call) (e : Event) (number : ℕ) → codeOf s calls e ≡ number ↔ Given (conditions s calls e) number
+
+-- document 02, Three: "a kind 7 or 8 event with identifier 0 is 3", whatever call it names: 3 is tested before 4
+abbrev pub ZeroIsThree : Type 0
+ZeroIsThree =
+    (s : Station) (calls : List Call) (e : Event) → T (sound s calls) → s .last ≤ e .time → T (answersRequest e) → e .identifier ≡ 0
+    → codeOf s calls e ≡ 3
 
 -- "A refusal's answer is its number and otherwise empty; records and station stay."
 pub record Refusal (s : Station) (before : List Call) (o : Outcome) : Type 0 where

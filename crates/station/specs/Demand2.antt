@@ -1,5 +1,5 @@
 -- Demand 2 over the table: what the events keep, what a request takes, how it ends, and what a clock event does. The theorems
--- are in proofs/Kept, Lists, Requests, Places, Named, Asking, Endings and Clocks.
+-- are in proofs/Kept, Lists, Requests, There, Places, Named, Asking, Endings and Clocks.
 use Prim.Native.Nat.{ℕ, _+_, _≤_, _<_}
 use mathlib.Core.Path.{_≡_}
 use mathlib.Core.Bool.{Bool, not, _||_}
@@ -78,6 +78,34 @@ pub record Drawn (s : Station) (calls : List Call) (identifier : ℕ) : Type 0 w
 
 abbrev pub SoundDraws : Type 0
 SoundDraws = (s : Station) (calls : List Call) → T (sound s calls) → Drawn s calls (identifierFor s calls)
+
+-- Document 02, Three: no identifier of ours is 0. No open request of a sound table bears it,
+abbrev pub RequestsThere : Type 0
+RequestsThere = (s : Station) (calls : List Call) → T (sound s calls) → (i : ℕ) → Open calls i 0 → ⊥
+
+-- nor does one that a list of events leaves open,
+abbrev pub RunThere : Type 0
+RunThere = (s : Station) (calls : List Call) (events : List Event) → T (sound s calls) → (i : ℕ) → Open (run s calls events .calls) i 0 → ⊥
+
+-- nor does the one that the next request takes,
+abbrev pub DrawnThere : Type 0
+DrawnThere = (s : Station) (calls : List Call) → T (sound s calls) → identifierFor s calls ≡ 0 → ⊥
+
+-- nor the one that a done divert's answer names, which its request and its invoke bear too (`Asks`),
+abbrev pub DivertThere : Type 0
+DivertThere = (s : Station) (calls : List Call) (e : Event) → T (diverts e) → codeOf s calls e ≡ 0 → step s calls e .answer .identifier ≡ 0 → ⊥
+
+-- and no done event leaves it as the next
+abbrev pub NextThere : Type 0
+NextThere = (s : Station) (calls : List Call) (e : Event) → codeOf s calls e ≡ 0 → step s calls e .station .next ≡ 0 → ⊥
+
+-- "Received invokes may still bear 0 and it is echoed.": what a host is told and sends
+abbrev pub InvokeEchoed : Type 0
+InvokeEchoed =
+    (s : Station) (calls : List Call) (e : Event)
+    → e .kind ≡ 12
+    → codeOf s calls e ≡ 0
+    → (step s calls e .answer .identifier ≡ e .identifier) × (step s calls e .answer .sent .first .identifier ≡ e .identifier)
 
 -- "6: .. Sends the callRerouting invoke with .. counter plus 1 .. Enters Requested, starts T1."; "the one after it is next"
 pub record Asks (s : Station) (before : List Call) (e : Event) (o : Outcome) : Type 0 where

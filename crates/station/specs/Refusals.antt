@@ -16,7 +16,8 @@ use Rattle.call.specs.Incoming.{counterSent}
 use Rattle.station.specs.declared.Station.{Station}
 use Rattle.station.specs.Table.{at, sound}
 
--- "1: table empty, over 64 records or not sound, or limit outside 1 to 15"
+-- "1: table empty, over 64 records or not sound, or limit outside 1 to 15"; document 02, Three: "an open request with 0, or a next
+-- identifier 0"
 abbrev pub notSound : Station → List Call → Bool
 notSound s calls = not (sound s calls)
 
@@ -24,7 +25,7 @@ notSound s calls = not (sound s calls)
 abbrev pub early : Station → Event → Bool
 early s e = ltb (e .time) (s .last)
 
--- "3: kind outside 1 to 15, a field against the table above"
+-- "3: kind outside 1 to 15, a field against the table above"; document 02, Three: "a kind 7 or 8 event with identifier 0"
 abbrev pub illMade : Event → Bool
 illMade e = not (wellMade e)
 

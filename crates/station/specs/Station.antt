@@ -1,7 +1,7 @@
 -- "The station and its work": what a station keeps, how it starts, and what an answer holds.
 use Prim.Native.Nat.{ℕ}
-use mathlib.Core.Bool.{Bool, _&&_}
-use lib.Dec.{leb}
+use mathlib.Core.Bool.{Bool, _&&_, not}
+use lib.Dec.{leb, eqb}
 use Rattle.ground.specs.Choice.{when_then_else_}
 use Rattle.notice.specs.Notice.{noNotice, noNumber}
 use Rattle.call.specs.Messages.{noIdentifier, noCounter, nothing}
@@ -12,6 +12,14 @@ use Rattle.station.specs.declared.Made.{Made}
 -- "its diversion limit (1 to 15)"
 abbrev pub limitOk : ℕ → Bool
 limitOk limit = leb 1 limit && leb limit 15
+
+-- document 02, Three: "a station whose next identifier is 0 isn't sound"
+abbrev pub nextOk : ℕ → Bool
+nextOk next = not (eqb next 0)
+
+-- what is tested of a station: "limit outside 1 to 15", "a next identifier 0, is 1"
+abbrev pub stationOk : Station → Bool
+stationOk s = limitOk (s .limit) && nextOk (s .next)
 
 -- "Fresh means last time 0, next identifier 65,535."
 abbrev pub freshStation : ℕ → Station

@@ -14,7 +14,7 @@ use Rattle.call.specs.Record.{freeCall, isFree, requested}
 use Rattle.call.specs.Soundness.{soundCall}
 use Rattle.call.specs.Incoming.{due}
 use Rattle.station.specs.declared.Station.{Station}
-use Rattle.station.specs.Station.{limitOk}
+use Rattle.station.specs.Station.{stationOk}
 
 -- the record at a place
 abbrev pub at : List Call → ℕ → Call
@@ -37,9 +37,10 @@ lengthOk calls = leb 1 (length calls) && leb (length calls) 64
 abbrev pub soundTable : Station → List Call → Bool
 soundTable s calls = all (soundCall (s .last)) calls && distinct (openIdentifiers s calls)
 
--- "1: table empty, over 64 records or not sound, or limit outside 1 to 15": where it isn't given
+-- "1: table empty, over 64 records or not sound, or limit outside 1 to 15"; document 02, Three: "an open request with 0, or a next
+-- identifier 0, is 1": where it isn't given
 unfoldable pub sound : Station → List Call → Bool
-sound s calls = lengthOk calls && limitOk (s .limit) && soundTable s calls
+sound s calls = lengthOk calls && stationOk s && soundTable s calls
 
 -- "takes the first identifier from the next one on that no open request has"
 abbrev pub identifierFor : Station → List Call → ℕ

@@ -13,7 +13,7 @@ use Rattle.event.specs.declared.Event.{Event}
 use Rattle.call.specs.declared.Call.{Call}
 use Rattle.call.specs.Record.{freeCall}
 use Rattle.station.specs.declared.Station.{Station}
-use Rattle.station.specs.Station.{limitOk}
+use Rattle.station.specs.Station.{stationOk}
 use Rattle.station.specs.Table.{sound, soundTable, place}
 use Rattle.station.specs.Refusals.{refusal}
 use Rattle.station.specs.Step.{Outcome, stationAfter, effectAt}
@@ -58,7 +58,7 @@ long-unsound : (s : Station) (calls : List Call) → cap < length calls → soun
 unfolding sound
 long-unsound s calls h = rw (lt-leb (length calls) cap h) (never (leb 1 (length calls)))
   where
-    never : (b : Bool) → ((b && false) && limitOk (s .limit) && soundTable s calls) ≡ false
+    never : (b : Bool) → ((b && false) && stationOk s && soundTable s calls) ≡ false
     never true = refl
     never false = refl
 

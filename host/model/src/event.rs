@@ -29,11 +29,11 @@ type Range = (u8, u8);
 /// "A field that a kind doesn't use is 0."
 const UNUSED: Range = (0, 0);
 
-/// How a kind uses a number field.
+/// How a kind uses a number or identifier field; an absent number is 0.
 #[derive(Clone, Copy)]
 enum Number {
     Unused,
-    MayBeAbsent,
+    Any,
     NotZero,
 }
 
@@ -41,7 +41,7 @@ impl Number {
     fn fits(self, value: u16) -> bool {
         match self {
             Number::Unused => value == 0,
-            Number::MayBeAbsent => true,
+            Number::Any => true,
             Number::NotZero => value != 0,
         }
     }
@@ -56,7 +56,7 @@ struct Row {
     option: Range,
     counter: Range,
     flag: Range,
-    identifier: bool,
+    identifier: Number,
     first: Number,
     second: Number,
     third: Number,
@@ -71,7 +71,7 @@ const NOTHING: Row = Row {
     option: UNUSED,
     counter: UNUSED,
     flag: UNUSED,
-    identifier: false,
+    identifier: Number::Unused,
     first: Number::Unused,
     second: Number::Unused,
     third: Number::Unused,
@@ -93,8 +93,8 @@ fn row_of_opens_and_users(kind: u8) -> Option<Row> {
             first: Number::NotZero,
             reason: (0, 3),
             counter: (1, MOST_DIVERSIONS),
-            second: Number::MayBeAbsent,
-            third: Number::MayBeAbsent,
+            second: Number::Any,
+            third: Number::Any,
             ..NOTHING
         },
         USER_ANSWERS => Row {
@@ -115,8 +115,9 @@ fn row_of_opens_and_users(kind: u8) -> Option<Row> {
 
 fn row_of_received(kind: u8) -> Option<Row> {
     Some(match kind {
+        // "a kind 7 or 8 event with identifier 0 is 3" (02, Three)
         RESULT | ERROR => Row {
-            identifier: true,
+            identifier: Number::NotZero,
             ..CALL
         },
         REROUTE => Row {
@@ -124,9 +125,10 @@ fn row_of_received(kind: u8) -> Option<Row> {
             reason: (1, 3),
             option: (0, 2),
             counter: (1, MOST_DIVERSIONS),
-            identifier: true,
+            // "Received invokes may still bear 0 and it is echoed." (02, Three)
+            identifier: Number::Any,
             second: Number::NotZero,
-            third: Number::MayBeAbsent,
+            third: Number::Any,
             ..CALL
         },
         DLI1 => Row {
@@ -139,7 +141,7 @@ fn row_of_received(kind: u8) -> Option<Row> {
             leg: (1, 2),
             message: (FACILITY, RELEASE_COMPLETE),
             flag: (NO_DLI3, DLI3_FORBIDDEN),
-            second: Number::MayBeAbsent,
+            second: Number::Any,
             ..CALL
         },
         _ => return None,
@@ -156,7 +158,7 @@ impl Row {
             && within(event.option, self.option)
             && within(event.counter, self.counter)
             && within(event.flag, self.flag)
-            && (self.identifier || event.identifier == 0)
+            && self.identifier.fits(event.identifier)
             && self.first.fits(event.first)
             && self.second.fits(event.second)
             && self.third.fits(event.third)

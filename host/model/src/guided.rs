@@ -55,6 +55,14 @@ pub fn divert(random: &mut Random, reason: u8) -> Event {
     }
 }
 
+/// The identifier of a request, or any where there is none, also 0.
+fn identifier_or_any(random: &mut Random, identifier: u16) -> u16 {
+    match identifier {
+        0 => random.pick(&[0, 1, 2, 65_535]),
+        _ => identifier,
+    }
+}
+
 fn reply(kind: u8, identifier: u16) -> Event {
     Event {
         identifier,
@@ -63,12 +71,13 @@ fn reply(kind: u8, identifier: u16) -> Event {
 }
 
 pub fn reroute(random: &mut Random, leg: u8, reason: u8) -> Event {
+    let any = random.draw() as u16;
     Event {
         leg,
         reason,
         option: random.option(),
         counter: random.byte(1, MOST_DIVERSIONS),
-        identifier: random.draw() as u16,
+        identifier: random.weighted(&[(1, 0), (1, u16::MAX), (8, any)]),
         second: random.number(),
         third: random.number_or_none(),
         ..of_kind(REROUTE)
@@ -154,7 +163,7 @@ fn incoming(random: &mut Random, record: &Record, other_identifier: u16) -> Even
     let answers = answer(random);
     let alerted = of_kind(USER_ALERTED);
     let kind = random.pick(&[RESULT, RESULT, ERROR]);
-    let matching = reply(kind, record.identifier);
+    let matching = reply(kind, identifier_or_any(random, record.identifier));
     let failed = of_kind(LEG_FAILED);
     let ends = random.pick(&[OWN_END, FAR_END]);
     let alike = [
@@ -190,6 +199,7 @@ pub fn about_a_call(random: &mut Random, table: &[Record]) -> Event {
         OUTGOING => outgoing(random, &table[at]),
         _ => {
             let other = table[random.pick(&used)].identifier;
+            let other = identifier_or_any(random, other);
             incoming(random, &table[at], other)
         }
     };
@@ -232,7 +242,7 @@ pub fn any_well_made(random: &mut Random, table: &[Record]) -> Event {
         CLOCK => return of_kind(CLOCK),
         USER_ANSWERS => answer(random),
         USER_DIVERTS => divert(random, reason),
-        RESULT | ERROR => reply(kind, random.pick(&[0, 1, 65_534, 65_535])),
+        RESULT | ERROR => reply(kind, random.pick(&[1, 2, 65_534, 65_535])),
         REROUTE => reroute(random, leg, reason),
         DLI1 => dli1(random),
         MESSAGE => {

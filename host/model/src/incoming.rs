@@ -5,7 +5,7 @@ use crate::codes::*;
 use crate::event::Event;
 use crate::record::Record;
 use crate::sound::reason_fits;
-use crate::station::Station;
+use crate::station::{self, Station};
 
 /// "Messages of incoming calls bear leg 1."
 const LEG: u8 = 1;
@@ -110,8 +110,8 @@ fn grant(record: &mut Record) {
 /// Kind 6: sends the invoke, enters Requested and starts T1.
 fn divert(table: &mut [Record], station: &mut Station, event: &Event) -> Message {
     let identifier = station.free_identifier(table);
-    // "the one after it is next, and the number after 65,535 is 0"
-    station.next_identifier = identifier.wrapping_add(1);
+    // "the one after it is next"
+    station.next_identifier = station::after(identifier);
     let record = &mut table[usize::from(event.call)];
     record.cds = REQUESTED;
     record.reason = event.reason;

@@ -6,7 +6,7 @@ use crate::event::Event;
 use crate::guided;
 use crate::random::Random;
 use crate::record::{Record, COUNT, FIELDS};
-use crate::station::Station;
+use crate::station::{self, Station};
 
 /// One lent table and station with one event for them.
 #[derive(Clone, Debug, PartialEq, Eq)]
@@ -77,7 +77,12 @@ pub fn incoming(random: &mut Random, last_time: u64, identifier: u16) -> Record 
     record
 }
 
-/// A station, nearly always sound, with times from 0 to the end of all time.
+/// The identifier so many places on.
+fn further(identifier: u16, places: u64) -> u16 {
+    (0..places).fold(identifier, |id, _| station::after(id))
+}
+
+/// A sound station, with times from 0 to the end of all time.
 pub fn station(random: &mut Random) -> Station {
     let last_time = match random.below(12) {
         0 => 0,
@@ -85,8 +90,8 @@ pub fn station(random: &mut Random) -> Station {
         2 => random.draw(),
         _ => random.below(1_000_000),
     };
-    let near_wrap = 65_500_u16.wrapping_add(random.below(72) as u16);
-    let anywhere = random.draw() as u16;
+    let near_wrap = further(65_500, random.below(72));
+    let anywhere = 1 + random.below(65_535) as u16;
     let any_limit = random.byte(1, MOST_DIVERSIONS);
     Station {
         last_time,
@@ -100,7 +105,7 @@ pub fn station(random: &mut Random) -> Station {
 pub fn table(random: &mut Random, length: usize, station: &Station) -> Vec<Record> {
     let free = random.pick(&[0, 0, 10, 40]);
     let gap = random.pick(&[0, 0, 0, 1, 5]);
-    let mut identifier = station.next_identifier.wrapping_add(gap);
+    let mut identifier = further(station.next_identifier, gap);
     (0..length)
         .map(|_| {
             if random.chance(free) {
@@ -111,7 +116,7 @@ pub fn table(random: &mut Random, length: usize, station: &Station) -> Vec<Recor
             }
             let record = incoming(random, station.last_time, identifier);
             if record.is_requested() {
-                identifier = identifier.wrapping_add(random.pick(&[1, 1, 1, 2, 900]));
+                identifier = further(identifier, random.pick(&[1, 1, 1, 2, 900]));
             }
             record
         })
@@ -129,16 +134,19 @@ pub fn length(random: &mut Random) -> usize {
     }
 }
 
-/// Changes one field of one record, or the station's limit. What comes out is
-/// mostly, but not always, unsound.
+/// Changes one field of one record, or the station's limit or next identifier.
+/// What comes out is mostly, but not always, unsound.
 pub fn damage(random: &mut Random, table: &mut [Record], station: &mut Station) {
-    if table.is_empty() || random.chance(8) {
-        station.limit = random.pick(&[0, 16, 17, 255]);
+    if table.is_empty() || random.chance(12) {
+        match random.chance(60) {
+            true => station.limit = random.pick(&[0, 16, 17, 255]),
+            false => station.next_identifier = 0,
+        }
         return;
     }
     let at = random.below(table.len() as u64) as usize;
     let record = &mut table[at];
-    match random.below(12) {
+    match random.below(13) {
         0..=4 => *record = any_field_changed(random, record),
         5 => record.basic = random.byte(PROCEEDING, ACTIVE),
         6 => record.cdo = 1 - record.cdo.min(1),
@@ -146,6 +154,7 @@ pub fn damage(random: &mut Random, table: &mut [Record], station: &mut Station) 
         8 => record.granted = 1 - record.granted.min(1),
         9 => record.cdf = random.byte(CDF_NONE, CDF_DONE),
         10 => record.start = station.last_time.saturating_add(1),
+        11 => open_identifier_0(table),
         _ => share_identifier(table),
     }
 }
@@ -172,6 +181,13 @@ fn share_identifier(table: &mut [Record]) {
     let last = table.iter_mut().rev().find(|r| r.is_requested());
     if let (Some(first), Some(last)) = (first, last) {
         last.identifier = first.identifier;
+    }
+}
+
+/// The first open request gets identifier 0.
+fn open_identifier_0(table: &mut [Record]) {
+    if let Some(open) = table.iter_mut().find(|r| r.is_requested()) {
+        open.identifier = 0;
     }
 }
 

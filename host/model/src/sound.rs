@@ -101,6 +101,11 @@ pub fn request_fields_only_in_use(r: &Record) -> bool {
         && (r.is_requested() || r.is_granted() || r.reason == 0)
 }
 
+/// "an open request with 0 [...] is 1" (02, Three)
+pub fn open_identifier_not_zero(r: &Record) -> bool {
+    !r.is_requested() || r.identifier != 0
+}
+
 /// "CDF is none exactly when the counter is 0"
 pub fn cdf_none_exactly_without_counter(r: &Record) -> bool {
     (r.cdf == CDF_NONE) == (r.counter == 0)
@@ -146,7 +151,7 @@ pub fn wait_excludes_active(r: &Record) -> bool {
 pub type Sentence = (&'static str, fn(&Record) -> bool);
 
 /// The sentences about one record, each with a name for reports.
-pub const RECORD_SENTENCES: [Sentence; 13] = [
+pub const RECORD_SENTENCES: [Sentence; 14] = [
     ("codes_in_range", codes_in_range),
     ("numbers_not_zero", numbers_not_zero),
     ("other_directions_fields_zero", other_directions_fields_zero),
@@ -154,6 +159,7 @@ pub const RECORD_SENTENCES: [Sentence; 13] = [
     ("history_zero_before_dli1", history_zero_before_dli1),
     ("numbers_only_with_counter", numbers_only_with_counter),
     ("request_fields_only_in_use", request_fields_only_in_use),
+    ("open_identifier_not_zero", open_identifier_not_zero),
     (
         "cdf_none_exactly_without_counter",
         cdf_none_exactly_without_counter,
@@ -203,9 +209,19 @@ pub fn records_sound(table: &[Record], last_time: u64) -> bool {
         && no_shared_identifier(table)
 }
 
-/// "its diversion limit (1 to 15)"; any time and identifier will do.
-pub fn station_sound(station: &Station) -> bool {
+/// "its diversion limit (1 to 15)"
+pub fn limit_in_range(station: &Station) -> bool {
     (1..=MOST_DIVERSIONS).contains(&station.limit)
+}
+
+/// "a station whose next identifier is 0 isn't sound" (02, Three)
+pub fn next_identifier_not_zero(station: &Station) -> bool {
+    station.next_identifier != 0
+}
+
+/// Limit and next identifier; any time will do.
+pub fn station_sound(station: &Station) -> bool {
+    limit_in_range(station) && next_identifier_not_zero(station)
 }
 
 /// The opposite of refusal 1.

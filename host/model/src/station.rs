@@ -2,6 +2,7 @@
 
 use crate::codes::MOST_DIVERSIONS;
 use crate::record::Record;
+use std::iter;
 
 #[derive(Clone, Copy, Debug, Default, PartialEq, Eq, Hash)]
 pub struct Station {
@@ -9,6 +10,12 @@ pub struct Station {
     pub last_time: u64,
     pub next_identifier: u16,
     pub limit: u8,
+}
+
+/// The identifier after this one: "From now on the number after 65,535 is 1"
+/// (02, Three).
+pub fn after(identifier: u16) -> u16 {
+    identifier.checked_add(1).unwrap_or(1)
 }
 
 impl Station {
@@ -35,15 +42,15 @@ impl Station {
     }
 
     /// "The request takes the first identifier from the next one on that no
-    /// open request has". A table of 64 records cannot hold all 65,536.
+    /// open request has". A table of 64 records cannot hold all 65,535.
     pub fn free_identifier(&self, table: &[Record]) -> u16 {
         let open = |id: u16| {
             table
                 .iter()
                 .any(|record| record.is_requested() && record.identifier == id)
         };
-        (0..=u16::MAX)
-            .map(|ahead| self.next_identifier.wrapping_add(ahead))
+        iter::successors(Some(self.next_identifier), |&id| Some(after(id)))
+            .take(usize::from(u16::MAX))
             .find(|&id| !open(id))
             .unwrap_or(self.next_identifier)
     }

@@ -2,7 +2,7 @@
 #![forbid(unsafe_code)]
 
 use model::codes::*;
-use model::profile::{self, Walk};
+use model::profile::{self, Profile, Walk};
 use model::random::Random;
 use model::shrink::shrink;
 use model::{lent, sound, step, Answer, Event, Record, Station};
@@ -100,6 +100,109 @@ fn lent_cases_meet_every_answer_of_every_kind() {
     }
 }
 
+/// How often identifier 0 was met, by where it stood.
+#[derive(Debug, Default)]
+struct Zeros {
+    result: u32,
+    error: u32,
+    result_echoed: u32,
+    error_echoed: u32,
+    next: u32,
+    open: u32,
+}
+
+impl Zeros {
+    fn event(&mut self, event: &Event, answer: &Answer) {
+        if event.identifier != 0 {
+            return;
+        }
+        let echoes = |letter| answer.messages.iter().any(|m| m.letter == letter);
+        match (event.kind, answer.code) {
+            (RESULT, 3) => self.result += 1,
+            (ERROR, 3) => self.error += 1,
+            (REROUTE, 0) => {
+                assert_eq!(answer.identifier, Some(0));
+                self.result_echoed += u32::from(echoes('R'));
+                self.error_echoed += u32::from(echoes('E'));
+            }
+            (RESULT | ERROR, code) => assert!(code < 3, "{event:?}: {code}"),
+            _ => {}
+        }
+    }
+
+    /// Counts where 0 is all that is wrong.
+    fn start(&mut self, table: &[Record], station: &Station) {
+        let mended = Station {
+            next_identifier: 1,
+            ..*station
+        };
+        if station.next_identifier == 0 && sound::lent_sound(table, &mended) {
+            self.next += 1;
+        }
+        let open = |r: &Record| r.is_requested() && r.identifier == 0;
+        let mended: Vec<Record> = table.iter().filter(|r| !open(r)).copied().collect();
+        if mended.len() < table.len() && sound::lent_sound(&mended, station) {
+            self.open += 1;
+        }
+    }
+
+    fn events_met(&self) -> bool {
+        let met = [
+            self.result,
+            self.error,
+            self.result_echoed,
+            self.error_echoed,
+        ];
+        met.iter().all(|&count| count > 4)
+    }
+}
+
+#[test]
+fn lent_cases_meet_identifier_0_everywhere() {
+    let mut zeros = Zeros::default();
+    let mut random = Random::new(13);
+    for _ in 0..40_000 {
+        let mut case = lent::case(&mut random);
+        zeros.start(&case.table, &case.station);
+        let answer = step(&mut case.table, &mut case.station, &case.event);
+        zeros.event(&case.event, &answer);
+    }
+    let starts_met = zeros.next > 50 && zeros.open > 50;
+    assert!(zeros.events_met() && starts_met, "{zeros:?}");
+}
+
+#[test]
+fn profiles_meet_identifier_0_in_replies_and_invokes() {
+    for profile in [Profile::Mixed, Profile::Deep, Profile::Hostile] {
+        let mut zeros = Zeros::default();
+        for seed in 0..4 {
+            let mut walk = Walk::new(profile, seed);
+            for _ in 0..3000 {
+                let (event, answer) = walk.advance();
+                zeros.event(&event, &answer);
+            }
+        }
+        assert!(zeros.events_met(), "{profile:?}: {zeros:?}");
+    }
+}
+
+#[test]
+fn lent_requests_pass_over_identifiers_across_the_wrap() {
+    let mut met = [0, 0];
+    let mut random = Random::new(17);
+    for _ in 0..60_000 {
+        let mut case = lent::case(&mut random);
+        let next = case.station.next_identifier;
+        let answer = step(&mut case.table, &mut case.station, &case.event);
+        let sent = answer
+            .identifier
+            .filter(|_| case.event.kind == USER_DIVERTS);
+        met[0] += u32::from(sent.is_some_and(|id| id < next));
+        met[1] += u32::from(sent == Some(u16::MAX));
+    }
+    assert!(met[0] > 10 && met[1] > 10, "{met:?}");
+}
+
 #[test]
 fn lent_lengths_reach_from_0_to_66() {
     let mut random = Random::new(3);
@@ -121,7 +224,7 @@ fn lists_are_deterministic() {
 
 #[test]
 fn shrinking_leaves_what_matters() {
-    let events = profile::events(profile::Profile::Deep, 5, 400);
+    let events = profile::events(Profile::Deep, 5, 400);
     let shown = |list: &[Event]| {
         let answers = model::panel::answers(list);
         answers.iter().any(|answer| answer.number.is_some())
@@ -129,7 +232,8 @@ fn shrinking_leaves_what_matters() {
     assert!(shown(&events));
     let short = shrink(&events, shown);
     assert!(shown(&short));
-    assert!(short.len() <= 4, "{short:?}");
+    // Opens up to the call that shows one, a DLI1 and a DLI3.
+    assert!(short.len() <= 8, "{short:?}");
     for at in 0..short.len() {
         let mut shorter = short.clone();
         shorter.remove(at);

@@ -16,7 +16,7 @@ fn nine_lines() {
 4 0 1 - - 65535 1 I1
 5 0 - - - - - -
 6 0 1 - - 65535 - -
-7 0 1 - - 0 1 I1
+7 0 1 - - 1 1 I1
 8 6 - - - - - -
 ";
     let bytes = text::encode(vectors::NINE).unwrap();
@@ -84,7 +84,7 @@ fn an_answer_is_not_matched_by_identifier_alone() {
         open incoming 2 at 2
         divert call 0 cfu to 9 at 3
         divert call 1 cfu to 9 at 4
-        result call 0 id 0 at 5";
+        result call 0 id 1 at 5";
     assert_eq!(last(lines), "6 - - - - - -");
 }
 
@@ -96,8 +96,8 @@ fn an_identifier_still_open_after_the_wrap_is_passed_over() {
         panel.run("divert call 0 cfu to 9 at 1").identifier,
         Some(65_535)
     );
-    assert_eq!(panel.run("divert call 2 cfu to 9 at 1").identifier, Some(0));
-    for id in 1..=65_534 {
+    assert_eq!(panel.run("divert call 2 cfu to 9 at 1").identifier, Some(1));
+    for id in 2..=65_534 {
         assert_eq!(
             panel.run("divert call 1 cfu to 9 at 1").identifier,
             Some(id)
@@ -105,8 +105,8 @@ fn an_identifier_still_open_after_the_wrap_is_passed_over() {
         panel.run(&format!("error call 1 id {id} at 1"));
     }
     assert_eq!(panel.station.next_identifier, 65_535);
-    assert_eq!(panel.run("divert call 1 cfu to 9 at 1").identifier, Some(1));
-    assert_eq!(panel.station.next_identifier, 2);
+    assert_eq!(panel.run("divert call 1 cfu to 9 at 1").identifier, Some(2));
+    assert_eq!(panel.station.next_identifier, 3);
 }
 
 #[test]
@@ -148,7 +148,7 @@ fn sixty_four_clocks_leave_nothing_due() {
     }
     for call in 0..64 {
         let ended = panel.run("clock at 10001");
-        let identifier = 65_535_u16.wrapping_add(call);
+        let identifier = if call == 0 { 65_535 } else { call };
         assert_eq!(
             (ended.call, ended.identifier),
             (Some(call as u8), Some(identifier))

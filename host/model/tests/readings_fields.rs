@@ -137,7 +137,7 @@ fn each_unused_field_of_each_kind_must_be_0() {
 type Change = fn(&mut Event);
 
 /// Events, each with a change that makes it wrong.
-const WRONG: [(&str, Change); 20] = [
+const WRONG: [(&str, Change); 22] = [
     ("clock at 1", |e| e.kind = 0),
     ("clock at 1", |e| e.kind = 16),
     ("open outgoing 9 at 1", |e| e.first = 0),
@@ -157,6 +157,8 @@ const WRONG: [(&str, Change); 20] = [
     ("divert call 0 cfu to 9 at 1", |e| e.reason = 0),
     ("divert call 0 cfu to 9 at 1", |e| e.option = 3),
     ("divert call 0 cfu to 9 at 1", |e| e.second = 0),
+    ("result call 0 id 9 at 1", |e| e.identifier = 0),
+    ("error call 0 id 9 at 1", |e| e.identifier = 0),
     ("reroute call 0 leg 1 cfu counter 1 id 0 to 9 at 1", |e| {
         e.leg = 0
     }),

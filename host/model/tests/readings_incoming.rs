@@ -94,7 +94,7 @@ fn a_no_reply_grant_is_cleared_by_a_failed_leg_and_may_divert_again() {
     assert_eq!(last(&failed), "0 0 - - - - -");
     assert_eq!(record(&failed, 0), record(RINGS, 0));
     let again = join(&failed, "divert call 0 cfnr to 9 at 6");
-    assert_eq!(last(&again), "0 0 - - 0 1 I1");
+    assert_eq!(last(&again), "0 0 - - 1 1 I1");
 }
 
 #[test]
@@ -132,8 +132,8 @@ fn the_next_identifier_is_the_taken_one_plus_1_also_after_skips() {
     panel.run("open incoming 1 at 4\nopen incoming 2 at 4\ndivert call 1 cfu to 9 at 4");
     panel.station.next_identifier = 65_535;
     let sent = panel.run("divert call 2 cfu to 9 at 4");
-    assert_eq!(sent.identifier, Some(1));
-    assert_eq!(panel.station.next_identifier, 2);
+    assert_eq!(sent.identifier, Some(2));
+    assert_eq!(panel.station.next_identifier, 3);
 }
 
 #[test]
@@ -143,8 +143,8 @@ fn the_clock_ends_the_lowest_due_record_not_the_oldest() {
     panel.run("divert call 1 cfu to 9 at 2\ndivert call 0 cfu to 9 at 3");
     assert_eq!(panel.line("clock at 10002"), "0 1 - - 65535 - -");
     panel.run("divert call 1 cfu to 9 at 10002");
-    assert_eq!(panel.line("clock at 30000"), "0 0 - - 0 - -");
-    assert_eq!(panel.line("clock at 30000"), "0 1 - - 1 - -");
+    assert_eq!(panel.line("clock at 30000"), "0 0 - - 1 - -");
+    assert_eq!(panel.line("clock at 30000"), "0 1 - - 2 - -");
     assert_eq!(panel.line("clock at 30000"), "0 - - - - - -");
 }
 

@@ -54,13 +54,28 @@ fn comments_and_empty_lines_are_passed_over() {
 }
 
 #[test]
+fn a_result_or_error_with_identifier_0_is_raw_and_an_invoke_is_not() {
+    for (kind, first) in [(7, "raw 07"), (8, "raw 08")] {
+        let event = Event {
+            kind,
+            ..Event::default()
+        };
+        let line = write_event(&event);
+        assert!(line.starts_with(first), "{line}");
+        assert_eq!(read_line(&line), Ok(Some(Line::Event(event))));
+    }
+    let invoke = "reroute call 0 leg 1 cfu counter 1 id 0 to 5 at 1\n";
+    assert_eq!(decode(&encode(invoke).unwrap()), invoke);
+}
+
+#[test]
 fn a_raw_line_may_hold_any_record() {
     let text = "raw 0A00000000000000000000000000000000000000000000ff";
     assert_eq!(decode(&encode(text).unwrap()), "clock at 255\n");
 }
 
 /// Texts that are not read, and how their errors begin.
-const WRONG: [(&str, &str); 18] = [
+const WRONG: [(&str, &str); 20] = [
     (
         "clock at 1\nclock",
         "line 2: expected `at`, found the end of the line",
@@ -81,6 +96,14 @@ const WRONG: [(&str, &str); 18] = [
     (
         "end call +6 at 1",
         "line 1: expected a number from 0 to 255, found `+6`",
+    ),
+    (
+        "result call 0 id 0 at 1",
+        "line 1: expected a number from 1 to 65535, found `0`",
+    ),
+    (
+        "error call 0 id 0 at 1",
+        "line 1: expected a number from 1 to 65535, found `0`",
     ),
     (
         "divert call 1 unknown to 3 at 1",

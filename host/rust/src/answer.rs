@@ -16,7 +16,7 @@ pub struct Answer {
     /// The number to show to the caller.
     pub number: Option<Number>,
     /// The identifier of a message that is sent, or of a request that a clock
-    /// event has ended.
+    /// event has ended. It is 0 only where an invoke that bears 0 is answered.
     pub identifier: Option<u16>,
     /// The counter of a message that is sent.
     pub counter: Option<u8>,

@@ -58,7 +58,7 @@ lies!(History, 6, seen 0 strictest 1 forbidden 2 shown 3 nominated 4);
 /// An open callRerouting request of an incoming call.
 #[derive(Clone, Copy, Debug, PartialEq, Eq)]
 pub struct Request {
-    /// The identifier that its result or error will bear.
+    /// The identifier that its result or error will bear; not 0.
     pub identifier: u16,
     /// Why the call is to be diverted.
     pub reason: Reason,

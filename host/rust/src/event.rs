@@ -39,7 +39,7 @@ pub enum Kind {
         option: Choice,
         destination: Number,
     },
-    /// The result of the callRerouting invoke with this identifier.
+    /// The result of our callRerouting invoke with this identifier, which is not 0.
     Result { call: u8, identifier: u16 },
     /// Its error or reject.
     Error { call: u8, identifier: u16 },
@@ -51,7 +51,7 @@ pub enum Kind {
     /// The own side ends the call.
     End { call: u8 },
     /// A callRerouting invoke was received on an outgoing call, for a reason
-    /// other than unknown; the counter is 1 to 15.
+    /// other than unknown; the counter is 1 to 15, and the identifier may be 0.
     Reroute {
         call: u8,
         leg: Leg,

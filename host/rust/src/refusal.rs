@@ -8,7 +8,8 @@ numbers! {
     /// says what to do; table and station are as they were.
     Refusal {
         /// The table is empty, over 64 records or not sound, or the station's
-        /// limit is not 1 to 15.
+        /// limit is not 1 to 15 or its next identifier 0
+        /// ([`Station::kept`](crate::Station::kept) says when).
         NotSound = 1,
         /// The event's time is before that of the last done event.
         TimeBefore = 2,

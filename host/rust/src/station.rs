@@ -36,7 +36,15 @@ impl Station {
     }
 
     /// A station that was kept elsewhere, as over a restart. A limit that is not
-    /// 1 to 15 is refused with the first event.
+    /// 1 to 15, or next identifier 0, is refused with the first event.
+    ///
+    /// Earlier archives gave identifier 0 after 65,535: what they left may have
+    /// next identifier 0, or an open request with it, and every event is then
+    /// [`Refusal::NotSound`]. Start again with free records and a fresh station;
+    /// or, where the next identifier is 0 and no request is open with 0, hand in 1:
+    /// `Station::kept(s.last(), 1, s.limit())`; or, before the archive is changed, let
+    /// a request with 0 end: by its answer, by a clock event 10,000 ms after it, or
+    /// with its call.
     pub const fn kept(last: u64, next: u16, limit: u8) -> Station {
         Station {
             last,
@@ -73,7 +81,8 @@ impl Station {
         self.last
     }
 
-    /// The identifier that the next request takes, unless an open one has it.
+    /// The identifier that the next request takes, unless an open one has it;
+    /// not 0.
     pub const fn next_identifier(&self) -> u16 {
         self.next
     }

@@ -183,10 +183,31 @@ fn a_station_is_kept_as_its_bytes() {
     let mut bytes = station.to_bytes();
     assert_eq!(bytes[10..], [15, 0, 0, 0, 0, 0]);
     assert_eq!(bytes[..8], (1_u64 << 63).to_ne_bytes());
-    assert_eq!(bytes[8..10], 0_u16.to_ne_bytes());
+    assert_eq!(bytes[8..10], 1_u16.to_ne_bytes());
     bytes[15] = 7;
     assert_eq!(Station::from_bytes(bytes), station);
     assert_eq!(Station::from_bytes(bytes).to_bytes(), station.to_bytes());
+}
+
+#[test]
+fn a_kept_identifier_0_is_refused() {
+    let open = Event::at(1, incoming(102));
+    let mut table = [Call::FREE; 1];
+    for next in [0, 1, 65535] {
+        let told = Station::kept(0, next, 15).step(&mut table.clone(), &open);
+        assert_eq!(told.err(), (next == 0).then_some(Refusal::NotSound));
+    }
+    let mut station = Station::short();
+    for kind in [incoming(102), divert(0)] {
+        let told = station.step(&mut table, &Event::at(1, kind));
+        assert!(told.is_ok(), "{told:?}");
+    }
+    let mut bytes = table[0].to_bytes();
+    assert_eq!(bytes[26..28], 65535_u16.to_ne_bytes());
+    bytes[26..28].copy_from_slice(&[0, 0]);
+    table[0] = Call::from_bytes(bytes);
+    let told = station.step(&mut table, &Event::at(1, Kind::Clock));
+    assert_eq!(told, Err(Refusal::NotSound));
 }
 
 #[test]

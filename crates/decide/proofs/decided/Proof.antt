@@ -9,12 +9,12 @@ use Rattle.decide.proofs.decided.Tie as tie
 sound-table-requires : tie.Need-sound-table-requires
 sound-table-requires c κs =
     let a = c .before .before .before .args in
-    short (a .len) (a .input .station .limit) _ (c .before .in-bounds .ensures) (c .if1 .taken)
+    short (a .len) (a .input .station) _ (c .before .in-bounds .ensures) (c .if1 .taken)
 
 decided-on-sound-requires : tie.Need-decided-on-sound-requires
 decided-on-sound-requires c κs =
     let a = c .before .before .before .before .before .args in
-    short (a .len) (a .input .station .limit) _ (c .before .before .before .in-bounds .ensures) (c .before .before .if1 .taken)
+    short (a .len) (a .input .station) _ (c .before .before .before .in-bounds .ensures) (c .before .before .if1 .taken)
 
 returns : tie.Need-returns
 returns c =

@@ -22,4 +22,4 @@ pub sound-board-spec : {M : Type 1} → statement M
 sound-board-spec =
     tie.close
     (tie.spec
-    (λ c κs. tt) (λ c κs. short (c .before .before .before .args .b .len) (c .before .before .before .args .b .station .limit) _ (c .before .in-bounds .ensures) (c .if1 .taken)) returns returns-2)
+    (λ c κs. tt) (λ c κs. short (c .before .before .before .args .b .len) (c .before .before .before .args .b .station) _ (c .before .in-bounds .ensures) (c .if1 .taken)) returns returns-2)

@@ -15,7 +15,7 @@ applied-requires c κs =
     let b = c .before .before .before .before .before .before .before .args .b in
     let e = c .before .before .before .before .before .before .before .args .e in
     let long : length (b .calls) ≡ 64 = search (mapped-long, c .before .before .before .before .before .before .before .good) in
-    let h = short (b .len) (b .station .limit) _ (c .before .before .before .before .in-bounds .ensures) (c .before .before .before .if1 .taken) in
+    let h = short (b .len) (b .station) _ (c .before .before .before .before .in-bounds .ensures) (c .before .before .before .if1 .taken) in
     rw (c .decided-on-sound .ensures) (fits-step-on-sound b e long h)
 
 returns : tie.Need-returns
@@ -23,7 +23,7 @@ returns c =
     let b = c .before .before .before .before .before .before .before .before .args .b in
     let e = c .before .before .before .before .before .before .before .before .args .e in
     let long : length (b .calls) ≡ 64 = search (mapped-long, c .before .before .before .before .before .before .before .before .good) in
-    let h = short (b .len) (b .station .limit) _ (c .before .before .before .before .before .in-bounds .ensures) (c .before .before .before .before .if1 .taken) in
+    let h = short (b .len) (b .station) _ (c .before .before .before .before .before .in-bounds .ensures) (c .before .before .before .before .if1 .taken) in
     let sound = sym (board-tested b _ _ long (c .before .before .before .before .before .in-bounds .ensures) (c .before .before .before .before .if1 .taken) (c .before .before .before .sound-table .ensures)) ∙ c .before .before .if2 .taken in
     c .applied .ensures ∙ ap (appliedTo b) (c .before .decided-on-sound .ensures) ∙ applied-step-on-sound b e long h ∙ tested-step b e sound
 
@@ -47,6 +47,6 @@ step-spec =
     tie.close
     (tie.spec
     (λ c κs. tt)
-    (λ c κs. short (c .before .before .before .before .args .b .len) (c .before .before .before .before .args .b .station .limit) _ (c .before .in-bounds .ensures) (c .if1 .taken))
-    (λ c κs. short (c .before .before .before .before .before .before .args .b .len) (c .before .before .before .before .before .before .args .b .station .limit) _ (c .before .before .before .in-bounds .ensures) (c .before .before .if1 .taken))
+    (λ c κs. short (c .before .before .before .before .args .b .len) (c .before .before .before .before .args .b .station) _ (c .before .in-bounds .ensures) (c .if1 .taken))
+    (λ c κs. short (c .before .before .before .before .before .before .args .b .len) (c .before .before .before .before .before .before .args .b .station) _ (c .before .before .before .in-bounds .ensures) (c .before .before .if1 .taken))
     applied-requires returns (λ c κs. tt) returns-2 (λ c κs. tt) returns-3)

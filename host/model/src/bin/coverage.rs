@@ -67,7 +67,11 @@ fn broken(table: &[Record], station: &Station) -> Vec<&'static str> {
         .collect();
     let others = [
         ("length_in_range", sound::length_in_range(table)),
-        ("station_sound", sound::station_sound(station)),
+        ("limit_in_range", sound::limit_in_range(station)),
+        (
+            "next_identifier_not_zero",
+            sound::next_identifier_not_zero(station),
+        ),
         (
             "no_start_after_last_time",
             sound::no_start_after_last_time(table, station.last_time),

@@ -21,8 +21,8 @@
 //! cut HH...
 //! ```
 //!
-//! N is a number from 1 to 65535, K 0 to 255, C 1 to 15, I 0 to 65535, L 1 or
-//! 2, T 0 to 18446744073709551615. REASON is `cfu`, `cfb` or `cfnr`, and with
+//! N is a number from 1 to 65535, K 0 to 255, C 1 to 15, I 1 to 65535 and with
+//! `reroute` also 0, L 1 or 2, T 0 to 18446744073709551615. REASON is `cfu`, `cfb` or `cfnr`, and with
 //! `diverted` and `dli1` also `unknown`. OPTION is `without-number` or
 //! `with-number`; left out it is no notification. MESSAGE is `facility`,
 //! `alerting`, `connect` or `release-complete`; DLI3 is `dli3-allowed` or

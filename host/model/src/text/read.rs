@@ -126,7 +126,7 @@ fn short(words: &mut Words) -> Result<Event, String> {
         Some(&(kind, name, with_identifier)) => {
             let mut event = call(words, name, kind)?;
             if with_identifier {
-                event.identifier = words.keyed("id", 0, 65_535)? as u16;
+                event.identifier = words.keyed("id", 1, 65_535)? as u16;
             }
             Ok(event)
         }
