@@ -30,7 +30,7 @@ impl Station {
         }
     }
 
-    /// A fresh station of the short form: limit 15.
+    /// A fresh station of the short form: limit 5.
     pub fn short() -> Station {
         raw::fresh_short()
     }

@@ -39,7 +39,7 @@ fn limits() {
         }
         assert_eq!(Station::fresh(limit).is_ok(), (1..=15).contains(&limit));
     }
-    assert_eq!(Ok(Station::short()), Station::fresh(15));
+    assert_eq!(Ok(Station::short()), Station::fresh(5));
 }
 
 #[test]
