@@ -4,7 +4,7 @@ use model::codes::*;
 use model::profile::{Profile, Walk};
 use model::random::Random;
 use model::record::FIELDS;
-use model::{Record, Station};
+use model::{panel, Record, Station};
 use plain::call::Call;
 use plain::event::Event;
 

@@ -3,7 +3,7 @@
 
 use model::codes::MOST_RECORDS;
 use model::plan::Ending;
-use model::{Record, Station};
+use model::{panel, Record, Station};
 
 /// The station, the lent length and the array of which the first are lent.
 #[derive(Clone, Debug, PartialEq, Eq)]
