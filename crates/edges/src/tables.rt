@@ -51,7 +51,7 @@ pub fn short_form() {
     say(b"# the short form\n");
     let mut s = fresh();
     let short = station::fresh_short();
-    s.board.station = short;
+    s.board.station.limit = short.limit;
     let s = on(s, open_diverted(102, 4, 1));
     let s = on(s, divert(0, 2));
     let s = on(s, open_diverted(102, 5, 3));
