@@ -57,7 +57,7 @@ static void play(const uint8_t *bytes, size_t len) {
     static whipsail_stepped stepped;
     static whipsail_ran ran;
     whipsail_told told;
-    start = (whipsail_board){.station = whipsail_fresh_short(), .len = WHIPSAIL_RECORDS};
+    start = (whipsail_board){.station = whipsail_fresh(15).station, .len = WHIPSAIL_RECORDS};
     board = start;
     for (size_t i = 0; i < WHIPSAIL_RECORDS; i++)
         table[i] = start.calls[i];

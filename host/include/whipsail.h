@@ -211,7 +211,9 @@ typedef struct whipsail_made {
 /* A station of this limit: last time 0, next identifier 65535. */
 whipsail_made whipsail_fresh(uint8_t limit);
 
-/* The same with limit 15. */
+/* The short form: limit 5. (It was 15 in earlier archives: a host that wants that
+ * names it, whipsail_fresh(15); a station that was kept has the limit it was made
+ * with.) */
 whipsail_station whipsail_fresh_short(void);
 
 /* One event on the `len` records at `table`, 1 to 64. `table` is not null, also

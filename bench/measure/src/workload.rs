@@ -4,7 +4,7 @@ use model::codes::*;
 use model::profile::{Profile, Walk};
 use model::random::Random;
 use model::record::FIELDS;
-use model::{Record, Station};
+use model::{panel, Record, Station};
 use plain::call::Call;
 use plain::event::Event;
 
@@ -26,7 +26,7 @@ const BEFORE: usize = 2_000;
 /// table that is kept full: the model's profile, as calls come and go.
 fn in_use(name: &'static str, records: usize, count: usize) -> Workload {
     let table = vec![Record::default(); records];
-    let mut walk = Walk::over(Profile::Full, 1, table, Station::short());
+    let mut walk = Walk::over(Profile::Full, 1, table, panel::start().1);
     for _ in 0..BEFORE {
         walk.advance();
     }
@@ -41,7 +41,7 @@ fn in_use(name: &'static str, records: usize, count: usize) -> Workload {
 fn requests(name: &'static str, count: usize) -> Workload {
     let mut walk = Requests {
         table: vec![Record::default(); MOST_RECORDS],
-        station: Station::short(),
+        station: panel::start().1,
         events: Vec::new(),
     };
     for call in 0..MOST_RECORDS as u8 {

@@ -16,6 +16,7 @@ fn main() {
     records::wrapped();
     tables::lengths();
     tables::limits();
+    tables::short_form();
     tables::zeros();
     tables::fresh_codes();
     tables::damaged_outgoing();

@@ -46,6 +46,18 @@ pub fn limits() {
     on(s, reroute(2, 15, 7));
 }
 
+// Document 02, Four: the short form has limit 5, so that a divert sends counter 5 at most.
+pub fn short_form() {
+    say(b"# the short form\n");
+    let mut s = fresh();
+    let short = station::fresh_short();
+    s.board.station.limit = short.limit;
+    let s = on(s, open_diverted(102, 4, 1));
+    let s = on(s, divert(0, 2));
+    let s = on(s, open_diverted(102, 5, 3));
+    on(s, divert(1, 4));
+}
+
 // Document 02, Three: a next identifier 0 and an open request with 0 are 1, whatever the event is; with next 1 the station is sound.
 pub fn zeros() {
     say(b"# identifier 0, kept\n");

@@ -9,7 +9,7 @@ use Rattle.station.specs.declared.Station.{Station}
 use Rattle.station.specs.Table.{sound}
 use Rattle.station.specs.Refusals.{refusal}
 use Rattle.station.specs.Step.{Outcome, step, stepOnSound}
-use Rattle.station.specs.Demand1.{conditions, Given, codeOf, NumberExact, Refusal, RefusalStays, Timed, DoneTimed, OnSound}
+use Rattle.station.specs.Demand1.{conditions, Given, codeOf, NumberExact, Refusal, RefusalStays, Timed, DoneTimed, OnSound, ShortIsFive}
 use Rattle.station.proofs.Numbers.{given, given-once, refusal-numbered, Passed, passed}
 use Rattle.station.proofs.Stepped.{Stepped, refuses, settles, passes, stepped}
 
@@ -52,3 +52,6 @@ done-timed s calls e z = timed-of (stepped s calls e) z
 pub on-sound : OnSound
 unfolding step stepOnSound refusal
 on-sound s calls e h = rw (is-true (sound s calls) h)
+
+pub short-is-five : ShortIsFive
+short-is-five = refl

@@ -12,7 +12,7 @@ use Rattle.event.specs.declared.Event.{Event}
 use Rattle.event.specs.Kinds.{answersRequest}
 use Rattle.call.specs.declared.Call.{Call}
 use Rattle.station.specs.declared.Station.{Station}
-use Rattle.station.specs.Station.{emptyAnswer}
+use Rattle.station.specs.Station.{freshOf, shortForm, emptyAnswer}
 use Rattle.station.specs.Table.{at, sound}
 use Rattle.station.specs.Refusals.{notSound, early, illMade, noSuchCall, notTaken, otherIdentifier, overLimit, noFreeRecord}
 use Rattle.station.specs.Step.{Outcome, step, stepOnSound}
@@ -69,3 +69,7 @@ DoneTimed = (s : Station) (calls : List Call) (e : Event) → codeOf s calls e �
 -- where the table was found sound, the test for it need not be made again
 abbrev pub OnSound : Type 0
 OnSound = (s : Station) (calls : List Call) (e : Event) → T (sound s calls) → stepOnSound s calls e ≡ step s calls e
+
+-- document 02, Four: "The short form of a fresh station shall use limit 5."
+abbrev pub ShortIsFive : Type 0
+ShortIsFive = freshOf 5 ≡ record { code = 0; station = shortForm }

@@ -34,9 +34,9 @@ freshOf limit =
     when limitOk limit then record { code = 0; station = freshStation limit } else
     record { code = 3; station = noStation }
 
--- "the short form uses 15"
+-- document 02, Four: "The short form of a fresh station shall use limit 5."
 abbrev pub shortLimit : ℕ
-shortLimit = 15
+shortLimit = 5
 
 abbrev pub shortForm : Station
 shortForm = freshStation shortLimit

@@ -64,7 +64,7 @@ pub fn fresh_short() -> Station
     Station {
         last: 0,
         next: 65535,
-        limit: 15,
+        limit: 5,
     }
 }
 

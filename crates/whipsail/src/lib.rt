@@ -34,7 +34,7 @@ pub extern "C" fn whipsail_fresh(limit: u8) -> Made
     station::fresh(limit)
 }
 
-// A station of limit 15.
+// The short form of a fresh station: limit 5.
 #[no_mangle]
 pub extern "C" fn whipsail_fresh_short() -> Station
     ensures { λ r. ⌜ r ≡ shortForm ⌝ }

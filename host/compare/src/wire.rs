@@ -3,7 +3,7 @@
 
 use model::codes::MOST_RECORDS;
 use model::plan::Ending;
-use model::{Record, Station};
+use model::{panel, Record, Station};
 
 /// The station, the lent length and the array of which the first are lent.
 #[derive(Clone, Debug, PartialEq, Eq)]
@@ -69,7 +69,7 @@ impl Board {
     /// "starts with 64 free records and a fresh station of limit 15"
     pub fn panel() -> Board {
         Board {
-            station: Station::short(),
+            station: panel::start().1,
             len: MOST_RECORDS as u64,
             calls: [Record::default(); MOST_RECORDS],
         }

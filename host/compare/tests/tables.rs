@@ -11,6 +11,7 @@ use compare::wire::Answer;
 use compare::{hostile, wrapped, Archive, Engine};
 use model::codes::MOST_RECORDS;
 use model::lent::Case;
+use model::panel;
 use model::profile::{self, Walk};
 use model::random::Random;
 use model::step;
@@ -88,7 +89,7 @@ fn lists_in_place() {
     for profile in profile::ALL {
         let mut walk = Walk::new(profile, first_seed());
         let mut table = [Call::FREE; MOST_RECORDS];
-        let mut station = whipsail::Station::short();
+        let mut station = whipsail::Station::fresh(panel::LIMIT).expect("a limit of 1 to 15");
         for at in 0..LIST {
             let (event, answer) = walk.advance();
             let told = station.step(&mut table, &Event::from_bytes(&event.encode()));

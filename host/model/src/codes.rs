@@ -66,5 +66,7 @@ pub const DLI3_FORBIDDEN: u8 = 2;
 pub const MOST_RECORDS: usize = 64;
 /// "its diversion limit (1 to 15)"; also the highest counter.
 pub const MOST_DIVERSIONS: u8 = 15;
+/// "The short form of a fresh station shall use limit 5." (02, Four)
+pub const SHORT_LIMIT: u8 = 5;
 /// T1: "time minus start at least 10,000".
 pub const T1: u64 = 10_000;

@@ -7,9 +7,16 @@ use crate::record::Record;
 use crate::station::Station;
 use crate::step::step;
 
+/// "`panelrun` names 15 itself so that its stored printouts stay" (02, Four)
+pub const LIMIT: u8 = 15;
+
 /// "starts with 64 free records and a fresh station of limit 15"
 pub fn start() -> (Vec<Record>, Station) {
-    (vec![Record::default(); MOST_RECORDS], Station::short())
+    let station = Station {
+        limit: LIMIT,
+        ..Station::short()
+    };
+    (vec![Record::default(); MOST_RECORDS], station)
 }
 
 /// The answers to a list of events from the panel's start.

@@ -112,7 +112,8 @@ pub fn rehearse(panels: &[Panel], start: u16) -> Result<Rehearsed, u8> {
     if refused(panels, start) {
         return Err(3);
     }
-    // "The limit is a short-form station's".
+    // "The limit is a short-form station's"; "The rehearsal of One takes 5
+    // too" (02, Four).
     let limit = Station::short().limit;
     let mut last = start;
     let mut counter = 0;

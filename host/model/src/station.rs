@@ -1,6 +1,6 @@
 //! What the station keeps beside the lent table.
 
-use crate::codes::MOST_DIVERSIONS;
+use crate::codes::{MOST_DIVERSIONS, SHORT_LIMIT};
 use crate::record::Record;
 use std::iter;
 
@@ -32,12 +32,12 @@ impl Station {
         })
     }
 
-    /// "the short form uses 15".
+    /// A fresh station whose limit nobody names.
     pub fn short() -> Station {
         Station {
             last_time: 0,
             next_identifier: u16::MAX,
-            limit: MOST_DIVERSIONS,
+            limit: SHORT_LIMIT,
         }
     }
 

@@ -135,7 +135,12 @@ fn a_fresh_station() {
         let fresh = (station.last_time, station.next_identifier, station.limit);
         assert_eq!(fresh, (0, 65_535, limit));
     }
-    assert_eq!(Ok(Station::short()), Station::fresh(15));
+    assert_eq!(Ok(Station::short()), Station::fresh(5));
+}
+
+#[test]
+fn the_panel_names_15_itself() {
+    assert_eq!(Ok(panel::start().1), Station::fresh(15));
 }
 
 #[test]

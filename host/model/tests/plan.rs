@@ -114,7 +114,15 @@ fn a_circle_ends_at_the_limit() {
 
 #[test]
 fn the_limit_is_the_short_forms() {
-    assert_eq!(Station::short().limit, 15);
+    let limit = Station::short().limit;
+    assert_eq!(limit, 5);
+    for (forwards, ending) in [(4, Ending::Rings), (5, Ending::Rings), (6, Ending::Limit)] {
+        let done = rehearse(&row(forwards), 1).unwrap();
+        assert_eq!(
+            (done.ending, done.counter),
+            (ending, limit.min(forwards as u8))
+        );
+    }
 }
 
 #[test]

@@ -30,7 +30,8 @@ impl Station {
         }
     }
 
-    /// A fresh station of the short form: limit 15.
+    /// A fresh station of the short form: limit 5. (15 in earlier archives; one that was
+    /// kept has the limit it was made with.)
     pub fn short() -> Station {
         raw::fresh_short()
     }

@@ -39,7 +39,7 @@ fn limits() {
         }
         assert_eq!(Station::fresh(limit).is_ok(), (1..=15).contains(&limit));
     }
-    assert_eq!(Ok(Station::short()), Station::fresh(15));
+    assert_eq!(Ok(Station::short()), Station::fresh(5));
 }
 
 #[test]
@@ -181,7 +181,7 @@ fn a_station_is_kept_as_its_bytes() {
         assert!(told.is_ok(), "{told:?}");
     }
     let mut bytes = station.to_bytes();
-    assert_eq!(bytes[10..], [15, 0, 0, 0, 0, 0]);
+    assert_eq!(bytes[10..], [5, 0, 0, 0, 0, 0]);
     assert_eq!(bytes[..8], (1_u64 << 63).to_ne_bytes());
     assert_eq!(bytes[8..10], 1_u16.to_ne_bytes());
     bytes[15] = 7;
