@@ -1,6 +1,7 @@
 // The rules of one call record: what an event that it takes does.
 ghost use mathlib.Core.Path.{_≡_};
 ghost use Prim.Native.Nat.{_<_};
+ghost use Rattle.event.specs.Kinds.{DivertCall};
 ghost use Rattle.call.specs.Outgoing.{actOutgoing};
 ghost use Rattle.call.specs.Act.{opened, ended, act};
 use call::Call;
@@ -48,7 +49,7 @@ fn act_outgoing(c: Call, e: Event) -> Effect
 // What an event that is taken does to its record, by the groups of kinds; the identifier is the one that a request would
 // take. A divert within the limit has a counter below 255.
 pub fn act(c: Call, e: Event, identifier: u16) -> Effect
-    requires { ⌜ (e .kind ≡ 6 → c .counter < 255) ⌝ }
+    requires { ⌜ (e .kind ≡ DivertCall → c .counter < 255) ⌝ }
     ensures { λ r. ⌜ r ≡ act c e identifier ⌝ }
 {
     let kind = e.kind;
