@@ -1,7 +1,7 @@
-/* stack FILE..: how deep a step on a lent table goes, a step by value and a run.
- * Plays the event records of each file on a fresh table in the three ways, paints
- * the stack before each call, and prints the most that one has overwritten,
- * counted from its caller's frame. */
+/* stack FILE..: how deep a step on a lent table goes, and a run. Plays the event
+ * records of each file on a fresh table in both ways, paints the stack before each
+ * call, and prints the most that one has overwritten, counted from its caller's
+ * frame. */
 #include <stdio.h>
 
 #include "whipsail.h"
@@ -31,19 +31,13 @@ __attribute__((noinline)) static uintptr_t lent(whipsail_call *table, const whip
     return (uintptr_t)__builtin_frame_address(0);
 }
 
-__attribute__((noinline)) static uintptr_t step(const whipsail_board *board, const whipsail_event *event,
-                                                whipsail_stepped *stepped) {
-    *stepped = whipsail_step(*board, *event);
-    return (uintptr_t)__builtin_frame_address(0);
-}
-
 __attribute__((noinline)) static uintptr_t run(const whipsail_board *board, const uint8_t *bytes, size_t len,
                                                whipsail_ran *ran) {
     *ran = whipsail_run(*board, bytes, len);
     return (uintptr_t)__builtin_frame_address(0);
 }
 
-static size_t deepest_lent, deepest_step, deepest_run, events;
+static size_t deepest_lent, deepest_run, events;
 
 static void deepen(size_t *deepest, uintptr_t frame) {
     size_t depth = depth_below(frame);
@@ -52,13 +46,11 @@ static void deepen(size_t *deepest, uintptr_t frame) {
 }
 
 static void play(const uint8_t *bytes, size_t len) {
-    static whipsail_board start, board;
+    static whipsail_board start;
     static whipsail_call table[WHIPSAIL_RECORDS];
-    static whipsail_stepped stepped;
     static whipsail_ran ran;
     whipsail_told told;
     start = (whipsail_board){.station = whipsail_fresh(15).station, .len = WHIPSAIL_RECORDS};
-    board = start;
     for (size_t i = 0; i < WHIPSAIL_RECORDS; i++)
         table[i] = start.calls[i];
     whipsail_input input = {.station = start.station};
@@ -67,9 +59,6 @@ static void play(const uint8_t *bytes, size_t len) {
         paint();
         deepen(&deepest_lent, lent(table, &input, &told));
         input.station = told.station;
-        paint();
-        deepen(&deepest_step, step(&board, &input.event, &stepped));
-        board = stepped.board;
     }
     paint();
     deepen(&deepest_run, run(&start, bytes, len, &ran));
@@ -93,7 +82,6 @@ int main(int count, char **files) {
     }
     printf("deepest stack in bytes over %zu events\n", events);
     tell("lent entry", deepest_lent, sizeof(whipsail_input), sizeof(whipsail_told));
-    tell("step by value", deepest_step, sizeof(whipsail_board) + sizeof(whipsail_event), sizeof(whipsail_stepped));
     tell("run", deepest_run, sizeof(whipsail_board), sizeof(whipsail_ran));
     return 0;
 }

@@ -3,9 +3,11 @@
  * then commands, each a letter and its arguments; all structs are as they lie
  * in memory, and counts are size_t:
  *
- *   B board                     the board that the next event or run meets
- *   E event                     a step; replies whipsail_stepped, whose board is next
- *   N count bytes               a run; replies whipsail_ran, whose board is next
+ *   B board                     the board that the next event and the next run meet:
+ *                               each goes on from what it has left itself
+ *   E event                     a step on the board's records, lent in place; replies
+ *                               whipsail_answer and the board
+ *   N count bytes               a run on the board by value; replies whipsail_ran
  *   L count from len input call.. lends len of the count records, from one on;
  *                               replies whipsail_told and all records
  *   W event                     replies one byte: well made
@@ -61,30 +63,52 @@ static whipsail_event event(void) {
     return e;
 }
 
-static void step(whipsail_board *board) {
-    whipsail_stepped stepped = whipsail_step(*board, event());
-    *board = stepped.board;
-    give(&stepped, sizeof stepped);
+/* What the next event meets, and the next run. */
+static whipsail_board lent, by_value;
+
+static void set_board(void) {
+    take(&lent, sizeof lent);
+    memcpy(&by_value, &lent, sizeof lent); /* padding too */
 }
 
-static void run(whipsail_board *board) {
+static void step(void) {
+    if (lent.len > WHIPSAIL_RECORDS)
+        stop("a board does not have so many records to lend");
+    whipsail_told told = whipsail_lent_step(lent.calls, lent.len, (whipsail_input){lent.station, event()});
+    lent.station = told.station;
+    give(&told.answer, sizeof told.answer);
+    give(&lent, sizeof lent);
+}
+
+static void run(void) {
     size_t size = count();
-    whipsail_ran ran = whipsail_run(*board, bytes(size), size);
-    *board = ran.board;
+    whipsail_ran ran = whipsail_run(by_value, bytes(size), size);
+    by_value = ran.board;
     give(&ran, sizeof ran);
 }
 
+/* What follows in the request, by itself in memory, so that it is aligned. */
+static void *lay(size_t all, size_t size) {
+    if (all > (size_t)(end - at) / size)
+        stop("more to lend than there is");
+    void *laid = malloc(all * size + 1);
+    if (laid == NULL)
+        stop("no memory");
+    take(laid, all * size);
+    return laid;
+}
+
 static void lent_step(void) {
-    static whipsail_call calls[4 * WHIPSAIL_RECORDS];
     size_t all = count(), from = count(), len = count();
     whipsail_input input;
     take(&input, sizeof input);
-    if (all > sizeof calls / sizeof calls[0] || from > all || len > all - from)
-        stop("more records than there is room for");
-    take(calls, all * sizeof calls[0]);
+    whipsail_call *calls = lay(all, sizeof *calls);
+    if (from > all || len > all - from)
+        stop("more records than there are");
     whipsail_told told = whipsail_lent_step(calls + from, len, input);
     give(&told, sizeof told);
-    give(calls, all * sizeof calls[0]);
+    give(calls, all * sizeof *calls);
+    free(calls);
 }
 
 static void read_event(void) {
@@ -93,17 +117,13 @@ static void read_event(void) {
     give(&found, sizeof found);
 }
 
-/* The numbers lie by themselves in memory, so that they are aligned. */
 static void rehearse(void) {
     size_t all = count(), from = count(), len = count();
     uint16_t start;
     take(&start, sizeof start);
-    if (all > (size_t)(end - at) / sizeof start || from > all || len > all - from)
+    uint16_t *numbers = lay(all, sizeof *numbers);
+    if (from > all || len > all - from)
         stop("more numbers than there are");
-    uint16_t *numbers = malloc(all * sizeof *numbers + 1);
-    if (numbers == NULL)
-        stop("no memory");
-    take(numbers, all * sizeof *numbers);
     whipsail_rehearsed told = whipsail_rehearse(numbers + from, len, start);
     give(&told, sizeof told);
     give(numbers, all * sizeof *numbers);
@@ -127,13 +147,13 @@ static void fresh_short(void) {
     give(&station, sizeof station);
 }
 
-static void command(whipsail_board *board) {
+static void command(void) {
     uint8_t letter;
     take(&letter, 1);
     switch (letter) {
-    case 'B': take(board, sizeof *board); break;
-    case 'E': step(board); break;
-    case 'N': run(board); break;
+    case 'B': set_board(); break;
+    case 'E': step(); break;
+    case 'N': run(); break;
     case 'L': lent_step(); break;
     case 'W': well_made(); break;
     case 'F': fresh(); break;
@@ -145,7 +165,6 @@ static void command(whipsail_board *board) {
 }
 
 int main(void) {
-    static whipsail_board board;
     uint8_t *request = NULL;
     uint32_t size;
     while (fread(&size, sizeof size, 1, stdin) == 1) {
@@ -155,7 +174,7 @@ int main(void) {
         at = request;
         end = request + size;
         while (at < end)
-            command(&board);
+            command();
         fflush(stdout);
     }
     free(request);

@@ -226,36 +226,8 @@ whipsail_told whipsail_lent_step(whipsail_call *table, size_t len, whipsail_inpu
  * refuses the event with 3. */
 bool whipsail_well_made(whipsail_event event);
 
-/* ---- Who will ring tonight? A plan of forwardings, rehearsed without a call. */
-
-/* A plan has 1 to 256 panels, whose numbers are their places from 1, and four
- * numbers for each: cfu, cfb and cfnr (a panel's number, or 0 for none), and the
- * marks, 0 or 1 each: busy in the low byte, unattended in the high one. */
-#define WHIPSAIL_PANELS 256
-#define WHIPSAIL_MARKS(busy, unattended) ((uint16_t)(((busy) ? 1 : 0) | ((unattended) ? 256 : 0)))
-
-/* How a rehearsed call ends; AT_LIMIT where one more forward would exceed the limit
- * of whipsail_fresh_short, as in any circle. */
-enum { WHIPSAIL_RINGS = 1, WHIPSAIL_BUSY = 2, WHIPSAIL_AT_LIMIT = 3 };
-
-/* `code` is WHIPSAIL_DONE, or WHIPSAIL_NOT_WELL_MADE: then ending and last are 0,
- * and the counter is 255, as 0 is one. */
-typedef struct whipsail_rehearsed {
-    uint8_t code;
-    uint8_t ending;
-    uint16_t last;   /* number of the panel where it ends */
-    uint8_t counter; /* how often it was forwarded */
-} whipsail_rehearsed;
-
-/* Where a call ends that the panel `start` is offered first. A panel forwards it to
- * its cfu; else, if busy, to its cfb, and with none is busy; else, if unattended, to
- * its cfnr; else it rings. Refused are: a count of numbers that is not four for each
- * of 1 to 256 panels; a start outside the plan, 0 too; a destination outside it,
- * reached or not; a mark above 1. `plan` is not null, also where `numbers` is 0, is
- * aligned to 2, and is only read. */
-whipsail_rehearsed whipsail_rehearse(const uint16_t *plan, size_t numbers, uint16_t start);
-
-/* ---- For files of events, and for tables by value. A panel needs none of this. */
+/* ---- For files of events, and for tables by value. A panel needs none of this.
+ * (Earlier archives had whipsail_step, one event by value: use whipsail_lent_step on the board's records.) */
 
 /* `whole` is 1, or 0 where fewer than 24 bytes are left: then the event is all
  * 0, which is refused with 3. */
@@ -273,11 +245,6 @@ typedef struct whipsail_board {
     whipsail_call calls[WHIPSAIL_RECORDS];
 } whipsail_board;
 
-typedef struct whipsail_stepped {
-    whipsail_answer answer;
-    whipsail_board board;
-} whipsail_stepped;
-
 /* What a run leaves: how many events were done and how many refused, the byte
  * count of a cut last record (it is not run), and the board. */
 typedef struct whipsail_ran {
@@ -287,12 +254,9 @@ typedef struct whipsail_ran {
     whipsail_board board;
 } whipsail_ran;
 
-/* The same on a board by value. */
-whipsail_stepped whipsail_step(whipsail_board board, whipsail_event event);
-
 /* All whole records of 24 bytes among `len` bytes, one after the other, as
- * whipsail_step would do them; the table is tested once. `bytes` is not null,
- * also where `len` is 0. */
+ * whipsail_lent_step would do them; the table is tested once. `bytes` is not
+ * null, also where `len` is 0. */
 whipsail_ran whipsail_run(whipsail_board board, const uint8_t *bytes, size_t len);
 
 /* The event whose 24 bytes, big-endian in the order of whipsail_event, start at
@@ -303,6 +267,10 @@ whipsail_read whipsail_event_at(const uint8_t *bytes, size_t len, size_t place);
 }
 #endif
 
+/* Who will ring tonight? whipsail_rehearse, without a call. */
+#include "whipsail_plan.h"
+
+/* Where each field lies, of all these structs. */
 #include "whipsail_layout.h"
 
 #endif

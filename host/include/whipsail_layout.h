@@ -47,8 +47,6 @@
     AT(read, whole, 0) AT(read, event, 8)                                                                              \
     SIZE(board, 2584)                                                                                                  \
     AT(board, station, 0) AT(board, len, 16) AT(board, calls, 24)                                                      \
-    SIZE(stepped, 2648)                                                                                                \
-    AT(stepped, answer, 0) AT(stepped, board, 64)                                                                      \
     SIZE(ran, 2608)                                                                                                    \
     AT(ran, done, 0) AT(ran, refused, 8) AT(ran, cut, 16) AT(ran, board, 24)
 

@@ -1,4 +1,4 @@
-//! The proved library's entries over the plain engine's structs, which lie in
+//! The library's entries over the plain engine's structs, which lie in
 //! memory as those of `whipsail.h`.
 
 use plain::answer::Answer;
@@ -59,7 +59,8 @@ pub fn step(table: &mut [Call], station: &mut Station, event: &Event) -> Answer 
 /// All whole records, after one test; hands back how many were done.
 pub fn run(table: &mut [Call], station: &mut Station, bytes: &[u8]) -> usize {
     let mut calls = [Call::default(); 64];
-    calls[..table.len()].copy_from_slice(table);
+    let there = table.len().min(64);
+    calls[..there].copy_from_slice(&table[..there]);
     let board = Board {
         station: *station,
         len: table.len(),
@@ -67,7 +68,7 @@ pub fn run(table: &mut [Call], station: &mut Station, bytes: &[u8]) -> usize {
     };
     // SAFETY: the slice's own pointer and length; all values are taken.
     let ran = unsafe { whipsail_run(board, bytes.as_ptr(), bytes.len()) };
-    table.copy_from_slice(&ran.board.calls[..table.len()]);
+    table[..there].copy_from_slice(&ran.board.calls[..there]);
     *station = ran.board.station;
     ran.done as usize
 }

@@ -1,7 +1,9 @@
-//! `measure time [ROUNDS]` prints the time of each event, proved and plain side
-//! by side; `measure count ENTRY ENGINE TABLE` plays one of them once, for a
-//! program that counts instructions.
+//! `measure time [ROUNDS]` times each event of both engines, and `measure count
+//! ENTRY ENGINE TABLE` plays one of them once, for a program that counts
+//! instructions. `bench/lent` puts both side by side.
 
+mod agree;
+mod convert;
 mod library;
 mod workload;
 
@@ -27,7 +29,7 @@ enum Entry {
     Run(Run),
 }
 
-/// The two entries by name, the proved engine's first.
+/// The two entries by name, the library's first.
 const ENTRIES: [(&str, [Entry; 2]); 2] = [
     (
         "step",
@@ -60,43 +62,6 @@ fn time(entry: Entry, work: &Workload) -> f64 {
     began.elapsed().as_nanos() as f64 / work.events.len() as f64
 }
 
-/// Both engines make the same tests of a table.
-fn refuse_alike(work: &Workload) {
-    let event = &work.events[0];
-    for mut ours in work.damaged() {
-        let (mut theirs, mut our_station, mut their_station) =
-            (ours.clone(), work.station, work.station);
-        let our_answer = library::step(&mut ours, &mut our_station, event);
-        let their_answer = plain::lent::step(&mut theirs, &mut their_station, event);
-        assert_eq!(our_answer, their_answer, "{}: {ours:?}", work.name);
-        assert_eq!((ours, our_station), (theirs, their_station));
-    }
-}
-
-/// Both engines give the same answers and leave the same table.
-fn agree(work: &Workload) {
-    let (mut ours, mut our_station) = (work.table.clone(), work.station);
-    let (mut theirs, mut their_station) = (ours.clone(), our_station);
-    for event in &work.events {
-        let our_answer = library::step(&mut ours, &mut our_station, event);
-        let their_answer = plain::lent::step(&mut theirs, &mut their_station, event);
-        assert_eq!(our_answer, their_answer, "{}: {event:?}", work.name);
-    }
-    assert_eq!((&ours, our_station), (&theirs, their_station));
-    for [first, second] in ENTRIES.map(|(_, engines)| engines) {
-        let played = [first, second].map(|entry| {
-            let (mut table, mut station) = (work.table.clone(), work.station);
-            let done = measured(entry, &mut table, &mut station, work);
-            (done, table, station)
-        });
-        assert!(
-            played[0] == played[1] && played[0].1 == ours,
-            "{}",
-            work.name
-        );
-    }
-}
-
 /// The best time of each engine on each table, all in turn.
 fn best(entries: [Entry; 2], works: &[Workload; 4], rounds: usize) -> [[f64; 2]; 4] {
     let mut least = [[f64::INFINITY; 2]; 4];
@@ -110,47 +75,32 @@ fn best(entries: [Entry; 2], works: &[Workload; 4], rounds: usize) -> [[f64; 2];
     least
 }
 
-fn print_line(name: &str, [ours, theirs]: [f64; 2]) {
-    let ratio = ours / theirs;
-    println!("  {name:<18}{ours:>9.2} /{theirs:>9.2} = {ratio:.2}");
-}
-
+/// A line for each entry and table: entry, table's number, library, plain, name.
 fn print_times(rounds: usize) {
     let works = workload::all(TIMED);
-    works.iter().for_each(agree);
-    works.iter().for_each(refuse_alike);
-    let record = size_of::<Call>();
-    println!(
-        "a record: {record} bytes of both; a table of 64: {}",
-        64 * record
-    );
-    for (name, entries) in ENTRIES {
-        let said = match name {
-            "step" => "lent entry, table tested for each event",
-            _ => "run, table tested once",
-        };
-        println!("{said}: ns for each event, proved / plain, best of {rounds}");
-        let times = best(entries, &works, rounds);
-        for (work, times) in works.iter().zip(times) {
-            print_line(work.name, times);
+    agree::check(&works);
+    for (entry, engines) in ENTRIES {
+        let times = best(engines, &works, rounds);
+        for (table, (work, [ours, theirs])) in works.iter().zip(times).enumerate() {
+            println!("{entry} {table} {ours:.2} {theirs:.2} {}", work.name);
         }
-        let [_, eight, all, _] = times;
-        let more = [0, 1].map(|engine| (all[engine] - eight[engine]) / 56.0);
-        print_line("each record more", more);
     }
 }
 
+/// Plays one of them, and prints how many events that were.
 fn count(words: &[String]) -> Option<()> {
     let [entry, engine, table] = words else {
         return None;
     };
     let (_, engines) = ENTRIES.into_iter().find(|(name, _)| name == entry)?;
-    let which = ["proved", "plain"].iter().position(|name| name == engine)?;
+    let which = ["library", "plain"]
+        .iter()
+        .position(|name| name == engine)?;
     let works = workload::all(COUNTED);
     let work = works.get(table.parse::<usize>().ok()?)?;
     let (mut table, mut station) = (work.table.clone(), work.station);
-    let done = measured(engines[which], &mut table, &mut station, work);
-    println!("{} {} {done}", work.name, work.events.len());
+    black_box(measured(engines[which], &mut table, &mut station, work));
+    println!("{}", work.events.len());
     Some(())
 }
 
@@ -163,7 +113,7 @@ fn main() {
             print_times(rounds.unwrap_or(100));
         }
         _ => {
-            eprintln!("usage: measure time [ROUNDS] | count step|run proved|plain 0..3");
+            eprintln!("usage: measure time [ROUNDS] | count step|run library|plain 0..3");
             std::process::exit(1);
         }
     }

@@ -1,9 +1,9 @@
 //! Tables and the events that they meet.
 
+use crate::convert;
 use model::codes::*;
 use model::profile::{Profile, Walk};
 use model::random::Random;
-use model::record::FIELDS;
 use model::{panel, Record, Station};
 use plain::call::Call;
 use plain::event::Event;
@@ -11,7 +11,10 @@ use plain::event::Event;
 /// A table in use, its station and events for them.
 pub struct Workload {
     pub name: &'static str,
-    records: Vec<Record>,
+    /// The start and the first event, as the model has them.
+    pub records: Vec<Record>,
+    pub start: Station,
+    pub first: model::Event,
     pub table: Vec<Call>,
     pub station: plain::station::Station,
     pub events: Vec<Event>,
@@ -110,68 +113,19 @@ impl Requests {
 
 fn made(
     name: &'static str,
-    table: &[Record],
-    station: Station,
+    records: &[Record],
+    start: Station,
     events: Vec<model::Event>,
 ) -> Workload {
-    let bytes = model::panel::bytes(&events);
-    let (records, _) = bytes.as_chunks();
     Workload {
         name,
-        records: table.to_vec(),
-        table: table.iter().map(call).collect(),
-        station: plain::station::Station {
-            last: station.last_time,
-            next: station.next_identifier,
-            limit: station.limit,
-        },
-        events: records.iter().map(Event::decode).collect(),
-        bytes,
-    }
-}
-
-impl Workload {
-    /// The table with one bit of one record turned over, for every bit.
-    pub fn damaged(&self) -> impl Iterator<Item = Vec<Call>> + '_ {
-        let bits = FIELDS.into_iter().enumerate();
-        let bits = bits.flat_map(|(field, (_, width))| (0..width).map(move |bit| (field, bit)));
-        bits.flat_map(move |(field, bit)| {
-            (0..self.records.len()).map(move |at| {
-                let mut values = self.records[at].values();
-                values[field] ^= 1 << bit;
-                let mut table = self.table.clone();
-                table[at] = call(&Record::from_values(&values));
-                table
-            })
-        })
-    }
-}
-
-fn call(r: &Record) -> Call {
-    Call {
-        direction: r.direction,
-        basic: r.basic,
-        cdo: r.cdo,
-        cdr: r.cdr,
-        cds: r.cds,
-        cdf: r.cdf,
-        granted: r.granted,
-        counter: r.counter,
-        party: r.leg1,
-        waiting_reason: r.waiting_reason,
-        waiting_option: r.waiting_option,
-        forwarded: r.leg2,
-        seen: r.seen,
-        strictest: r.strictest,
-        forbidden: r.forbidden,
-        shown: r.shown,
-        nominated: r.nominated,
-        own: r.own,
-        diverting: r.diverting,
-        original: r.original,
-        identifier: r.identifier,
-        reason: r.reason,
-        start: r.start,
+        records: records.to_vec(),
+        start,
+        first: events[0],
+        table: convert::table(records),
+        station: convert::station(&start),
+        events: events.iter().map(convert::event).collect(),
+        bytes: panel::bytes(&events),
     }
 }
 

@@ -30,7 +30,7 @@ pub struct Answer {
 }
 
 impl Answer {
-    #[inline]
+    #[inline(always)]
     pub fn refused(code: u8) -> Answer {
         Answer {
             code,
@@ -43,7 +43,7 @@ impl Answer {
         }
     }
 
-    #[inline]
+    #[inline(always)]
     pub fn done(call: u8) -> Answer {
         Answer {
             call,
@@ -51,7 +51,7 @@ impl Answer {
         }
     }
 
-    #[inline]
+    #[inline(always)]
     pub fn sending(call: u8, first: Message) -> Answer {
         let mut answer = Answer::done(call);
         answer.sent[0] = first;
@@ -59,11 +59,20 @@ impl Answer {
     }
 }
 
-#[inline]
+#[inline(always)]
 pub fn bare(letter: u8, leg: u8) -> Message {
     Message {
         letter,
         leg,
         ..Message::default()
+    }
+}
+
+/// A result or an error.
+#[inline(always)]
+pub fn echo(letter: u8, leg: u8, identifier: u16) -> Message {
+    Message {
+        identifier,
+        ..bare(letter, leg)
     }
 }

@@ -25,7 +25,30 @@ pub struct Call {
     pub original: u16,
     pub identifier: u16,
     pub reason: u8,
+    pub unused: Unused,
     pub start: u64,
+}
+
+/// Bytes that are no field: named, so that each byte of a record has a value, and
+/// equal whatever they are.
+#[derive(Clone, Copy, Debug, Default)]
+#[repr(C)]
+pub struct Unused(pub [u8; 3]);
+
+impl PartialEq for Unused {
+    fn eq(&self, _: &Unused) -> bool {
+        true
+    }
+}
+
+impl Call {
+    /// The record as it lies in memory, five words.
+    #[inline(always)]
+    #[allow(unsafe_code)]
+    pub fn words(self) -> [u64; 5] {
+        // SAFETY: both are 40 bytes of plain numbers, without padding.
+        unsafe { std::mem::transmute(self) }
+    }
 }
 
 pub const FREE: u8 = 0;
@@ -38,3 +61,5 @@ pub const ACTIVE: u8 = 3;
 pub const WAIT: u8 = 1;
 pub const DONE: u8 = 2;
 pub const CFNR: u8 = 3;
+/// How long a request waits for its answer, in ms.
+pub const T1: u64 = 10_000;

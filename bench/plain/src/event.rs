@@ -41,114 +41,152 @@ impl Event {
         }
     }
 
-    /// Whether kind and fields are as the page's table says.
     #[inline]
-    pub fn well_made(&self) -> bool {
-        let e = self;
-        let no_numbers = e.first == 0 && e.second == 0 && e.third == 0;
-        let no_leg = e.leg == 0 && e.message == 0;
-        let no_choice = e.reason == 0 && e.option == 0;
-        match e.kind {
-            1 | 2 => {
-                e.call == 0
-                    && no_leg
-                    && no_choice
-                    && e.counter == 0
-                    && e.flag == 0
-                    && e.identifier == 0
-                    && e.first != 0
-                    && e.second == 0
-                    && e.third == 0
-            }
-            3 => {
-                e.call == 0
-                    && no_leg
-                    && e.reason <= 3
-                    && e.option == 0
-                    && (1..=15).contains(&e.counter)
-                    && e.flag == 0
-                    && e.identifier == 0
-                    && e.first != 0
-            }
-            4 | 9 | 11 | 15 => {
-                no_leg
-                    && no_choice
-                    && e.counter == 0
-                    && e.flag == 0
-                    && e.identifier == 0
-                    && no_numbers
-            }
-            5 => {
-                no_leg
-                    && no_choice
-                    && e.counter == 0
-                    && e.flag <= 1
-                    && e.identifier == 0
-                    && no_numbers
-            }
-            6 => {
-                no_leg
-                    && (1..=3).contains(&e.reason)
-                    && e.option <= 2
-                    && e.counter == 0
-                    && e.flag == 0
-                    && e.identifier == 0
-                    && e.first == 0
-                    && e.second != 0
-                    && e.third == 0
-            }
-            7 | 8 => {
-                no_leg
-                    && no_choice
-                    && e.counter == 0
-                    && e.flag == 0
-                    && e.identifier != 0
-                    && no_numbers
-            }
-            10 => {
-                e.call == 0
-                    && no_leg
-                    && no_choice
-                    && e.counter == 0
-                    && e.flag == 0
-                    && e.identifier == 0
-                    && no_numbers
-            }
-            12 => {
-                (1..=2).contains(&e.leg)
-                    && e.message == 0
-                    && (1..=3).contains(&e.reason)
-                    && e.option <= 2
-                    && (1..=15).contains(&e.counter)
-                    && e.flag == 0
-                    && e.first == 0
-                    && e.second != 0
-            }
-            13 => {
-                no_leg
-                    && e.reason <= 3
-                    && e.option <= 2
-                    && e.counter == 0
-                    && e.flag == 0
-                    && e.identifier == 0
-                    && e.first == 0
-                    && e.second != 0
-                    && e.third == 0
-            }
-            14 => {
-                (1..=2).contains(&e.leg)
-                    && (1..=4).contains(&e.message)
-                    && no_choice
-                    && e.counter == 0
-                    && e.flag <= 2
-                    && e.identifier == 0
-                    && e.first == 0
-                    && e.third == 0
-                    && (e.flag != 0 || e.second == 0)
-                    && (e.message != 1 || e.flag != 0)
-                    && (e.message != 4 || e.flag == 0)
-            }
-            _ => false,
+    #[allow(unsafe_code)]
+    pub fn words(self) -> Words {
+        // SAFETY: both are 24 bytes of plain numbers, without padding.
+        let [codes, numbers, _] = unsafe { std::mem::transmute::<Event, [u64; 3]>(self) };
+        Words { codes, numbers }
+    }
+}
+
+/// An event but for its time as two words, for tests of several fields at once.
+/// Numbers are only held against 0, so their bytes may stand in either order.
+#[derive(Clone, Copy)]
+pub struct Words {
+    codes: u64,
+    numbers: u64,
+}
+
+const KIND: u64 = 0xff;
+const CALL: u64 = 0xff << 8;
+const LEG: u64 = 0xff << 16;
+const MESSAGE: u64 = 0xff << 24;
+const REASON: u64 = 0xff << 32;
+const OPTION: u64 = 0xff << 40;
+const COUNTER: u64 = 0xff << 48;
+const FLAG: u64 = 0xff << 56;
+const IDENTIFIER: u64 = 0xffff;
+const FIRST: u64 = 0xffff << 16;
+const SECOND: u64 = 0xffff << 32;
+
+/// The bits that values up to `most`, a power of two less 1, have in these fields.
+const fn up_to(most: u64, fields: u64) -> u64 {
+    fields / 0xff * most
+}
+
+/// FACILITY with a DLI3, ALERTING and CONNECT with or without, RELEASE COMPLETE
+/// without: bit 4 * message + flag.
+const MESSAGES: u32 = 0b0110 << 4 | 0b0111 << 8 | 0b0111 << 12 | 0b0001 << 16;
+
+impl Words {
+    #[inline]
+    pub fn of(record: &[u8; SIZE]) -> Words {
+        let (words, _) = record.as_chunks();
+        Words {
+            codes: u64::from_le_bytes(words[0]),
+            numbers: u64::from_le_bytes(words[1]),
         }
+    }
+
+    /// No bits but these among the codes.
+    #[inline]
+    fn only(self, bits: u64) -> bool {
+        self.codes & !(KIND | bits) == 0
+    }
+
+    #[inline]
+    fn has(self, field: u64) -> bool {
+        self.codes & field != 0
+    }
+
+    /// Of the numbers this one, and no other.
+    #[inline]
+    fn one_number(self, field: u64) -> bool {
+        self.numbers & !field == 0 && self.numbers != 0
+    }
+
+    #[inline]
+    fn option_fits(self) -> bool {
+        self.codes & OPTION != up_to(3, OPTION)
+    }
+
+    #[inline]
+    fn leg_fits(self) -> bool {
+        self.has(LEG) && self.codes & LEG != up_to(3, LEG)
+    }
+
+    /// Kinds 1 and 2.
+    #[inline]
+    pub fn open(self) -> bool {
+        self.only(0) && self.one_number(FIRST)
+    }
+
+    /// Kind 3.
+    #[inline]
+    pub fn open_diverted(self) -> bool {
+        self.only(up_to(3, REASON) | up_to(15, COUNTER))
+            && self.has(COUNTER)
+            && self.numbers & IDENTIFIER == 0
+            && self.numbers & FIRST != 0
+    }
+
+    /// Kinds 4, 9, 11 and 15.
+    #[inline]
+    pub fn call_only(self) -> bool {
+        self.only(CALL) && self.numbers == 0
+    }
+
+    /// Kind 5.
+    #[inline]
+    pub fn answer(self) -> bool {
+        self.only(CALL | up_to(1, FLAG)) && self.numbers == 0
+    }
+
+    /// Kind 6.
+    #[inline]
+    pub fn divert(self) -> bool {
+        self.inform() && self.has(REASON)
+    }
+
+    /// Kinds 7 and 8.
+    #[inline]
+    pub fn outcome(self) -> bool {
+        self.only(CALL) && self.one_number(IDENTIFIER)
+    }
+
+    /// Kind 10.
+    #[inline]
+    pub fn clock(self) -> bool {
+        self.only(0) && self.numbers == 0
+    }
+
+    /// Kind 12.
+    #[inline]
+    pub fn reroute(self) -> bool {
+        self.only(CALL | up_to(3, LEG | REASON | OPTION) | up_to(15, COUNTER))
+            && self.leg_fits()
+            && self.has(REASON)
+            && self.option_fits()
+            && self.has(COUNTER)
+            && self.numbers & FIRST == 0
+            && self.numbers & SECOND != 0
+    }
+
+    /// Kind 13.
+    #[inline]
+    pub fn inform(self) -> bool {
+        self.only(CALL | up_to(3, REASON | OPTION)) && self.option_fits() && self.one_number(SECOND)
+    }
+
+    /// Kind 14.
+    #[inline]
+    pub fn message(self) -> bool {
+        let (message, flag) = (self.codes >> 24 & 7, self.codes >> 56 & 3);
+        self.only(CALL | up_to(3, LEG | FLAG) | up_to(7, MESSAGE))
+            && self.leg_fits()
+            && MESSAGES >> (4 * message + flag) & 1 == 1
+            && self.numbers & !SECOND == 0
+            && (flag != 0 || self.numbers == 0)
     }
 }

@@ -2,14 +2,14 @@
 
 use crate::answer::Answer;
 use crate::call::Call;
-use crate::event::{Event, SIZE};
+use crate::event::{Event, Words, SIZE};
 use crate::sound::sound;
 use crate::station::Station;
 
 /// One event on a table that is not trusted.
 pub fn step(table: &mut [Call], station: &mut Station, event: &Event) -> Answer {
     match sound(table, station) {
-        true => station.step(table, event),
+        true => station.step(table, event, event.words()),
         false => Answer::refused(1),
     }
 }
@@ -20,6 +20,10 @@ pub fn run(table: &mut [Call], station: &mut Station, bytes: &[u8]) -> usize {
     if !sound(table, station) {
         return 0;
     }
-    let done = |record: &&[u8; SIZE]| station.step(table, &Event::decode(record)).code == 0;
-    records.iter().filter(done).count()
+    let mut done = 0;
+    for record in records {
+        let answer = station.step(table, &Event::decode(record), Words::of(record));
+        done += usize::from(answer.code == 0);
+    }
+    done
 }

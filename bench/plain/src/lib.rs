@@ -1,7 +1,9 @@
 //! The engine in plain Rust, written for speed: one table in place, plain scans,
-//! early exits. Its structs lie in memory as those of `whipsail.h`, so that both
-//! engines can be lent the same table.
-#![forbid(unsafe_code)]
+//! early exits, several fields tested at once. Its structs lie in memory as those
+//! of `whipsail.h`, so that both engines can be lent the same table.
+//!
+//! What a step does is always inlined: a run then makes nothing of an answer.
+#![deny(unsafe_code)]
 
 pub mod answer;
 pub mod call;

@@ -4,7 +4,7 @@
 
 use plain::answer::Answer;
 use plain::call::Call;
-use plain::event::{Event, SIZE};
+use plain::event::{Event, Words, SIZE};
 use plain::station::Station;
 use plain::{line, sound};
 use std::fs::File;
@@ -29,7 +29,7 @@ fn main() -> io::Result<()> {
         let (records, _) = read[..held].as_chunks::<SIZE>();
         for record in records {
             let answer = match sound {
-                true => station.step(&mut table, &Event::decode(record)),
+                true => station.step(&mut table, &Event::decode(record), Words::of(record)),
                 false => Answer::refused(1),
             };
             out += line::write(&mut written[out..], position, &answer);

@@ -1,11 +1,11 @@
 //! What an event does to the call that it names.
 
-use crate::answer::{bare, Answer, Message};
+use crate::answer::{bare, echo, Answer, Message};
 use crate::call::*;
 use crate::event::Event;
 
 impl Call {
-    #[inline]
+    #[inline(always)]
     pub fn end_request(&mut self) {
         self.cds = 0;
         self.granted = 0;
@@ -15,12 +15,12 @@ impl Call {
     }
 
     /// Requested or granted, with cfu or cfb.
-    #[inline]
+    #[inline(always)]
     fn leaving(&self) -> bool {
         (self.cds == 1 || self.granted == 1) && self.reason < CFNR
     }
 
-    #[inline]
+    #[inline(always)]
     pub fn alerted(&mut self, e: &Event) -> Answer {
         if self.basic != PROCEEDING || self.leaving() {
             return Answer::refused(5);
@@ -29,7 +29,7 @@ impl Call {
         Answer::sending(e.call, bare(b'A', 1))
     }
 
-    #[inline]
+    #[inline(always)]
     pub fn answered(&mut self, e: &Event) -> Answer {
         if self.basic == ACTIVE || self.leaving() {
             return Answer::refused(5);
@@ -48,24 +48,42 @@ impl Call {
         Answer::sending(e.call, connect)
     }
 
-    #[inline]
-    pub fn outcome(&mut self, e: &Event) -> Answer {
+    /// Ends the request that the event bears, if it is this call's; hands back
+    /// its reason, or the number of the refusal.
+    #[inline(always)]
+    fn settled_by(&mut self, e: &Event) -> Result<u8, u8> {
         if self.cds == 0 {
-            return Answer::refused(5);
+            return Err(5);
         }
         if self.identifier != e.identifier {
-            return Answer::refused(6);
+            return Err(6);
         }
         let reason = self.reason;
         self.end_request();
-        if e.kind == 7 {
-            self.granted = 1;
-            self.reason = reason;
-        }
-        Answer::done(e.call)
+        Ok(reason)
     }
 
-    #[inline]
+    #[inline(always)]
+    pub fn granted_by(&mut self, e: &Event) -> Answer {
+        match self.settled_by(e) {
+            Ok(reason) => {
+                self.granted = 1;
+                self.reason = reason;
+                Answer::done(e.call)
+            }
+            Err(code) => Answer::refused(code),
+        }
+    }
+
+    #[inline(always)]
+    pub fn turned_down_by(&mut self, e: &Event) -> Answer {
+        match self.settled_by(e) {
+            Ok(_) => Answer::done(e.call),
+            Err(code) => Answer::refused(code),
+        }
+    }
+
+    #[inline(always)]
     pub fn leg_failed(&mut self, e: &Event) -> Answer {
         if self.granted == 0 || self.reason != CFNR {
             return Answer::refused(5);
@@ -74,7 +92,7 @@ impl Call {
         Answer::done(e.call)
     }
 
-    #[inline]
+    #[inline(always)]
     pub fn ended(&mut self, e: &Event) -> Answer {
         let mut answer = Answer::sending(e.call, bare(b'X', 1));
         if self.cdr == 1 {
@@ -84,7 +102,14 @@ impl Call {
         answer
     }
 
-    #[inline]
+    /// The far end has ended it.
+    #[inline(always)]
+    pub fn left(&mut self, e: &Event) -> Answer {
+        *self = Call::default();
+        Answer::done(e.call)
+    }
+
+    #[inline(always)]
     pub fn informed(&mut self, e: &Event) -> Answer {
         if self.basic == ACTIVE {
             return Answer::refused(5);
@@ -95,7 +120,7 @@ impl Call {
         }
     }
 
-    #[inline]
+    #[inline(always)]
     pub fn rerouted(&mut self, e: &Event) -> Answer {
         if e.leg == 2 && self.cdr == 0 {
             return Answer::refused(5);
@@ -104,34 +129,22 @@ impl Call {
             identifier: u32::from(e.identifier),
             ..Answer::done(e.call)
         };
-        let echo = |letter, leg| Message {
-            identifier: e.identifier,
-            ..bare(letter, leg)
-        };
         let no_reply = e.reason == CFNR;
         if self.cdr == 1 || self.basic == ACTIVE || (no_reply && self.basic != RINGING) {
-            answer.sent[0] = echo(b'E', e.leg);
+            answer.sent[0] = echo(b'E', e.leg, e.identifier);
             return answer;
         }
-        let setup = |leg| Message {
-            reason: e.reason,
-            counter: e.counter,
-            destination: e.second,
-            diverting: self.party,
-            original: e.third,
-            ..bare(b'S', leg)
-        };
         answer.counter = e.counter;
-        answer.sent[0] = echo(b'R', 1);
+        answer.sent[0] = echo(b'R', 1, e.identifier);
         if no_reply {
-            answer.sent[1] = setup(2);
+            answer.sent[1] = self.setup(e, 2);
             self.cdr = 1;
             self.forwarded = e.second;
             self.waiting_reason = e.reason;
             self.waiting_option = e.option;
         } else {
             answer.sent[1] = bare(b'X', 1);
-            answer.sent[2] = setup(1);
+            answer.sent[2] = self.setup(e, 1);
             self.party = e.second;
             self.basic = PROCEEDING;
             answer.notice = self.dli1(e.reason, e.option, e.second);
@@ -139,8 +152,20 @@ impl Call {
         answer
     }
 
+    #[inline(always)]
+    fn setup(&self, e: &Event, leg: u8) -> Message {
+        Message {
+            reason: e.reason,
+            counter: e.counter,
+            destination: e.second,
+            diverting: self.party,
+            original: e.third,
+            ..bare(b'S', leg)
+        }
+    }
+
     /// A DLI1 to the CDO; hands back the notice.
-    #[inline]
+    #[inline(always)]
     fn dli1(&mut self, reason: u8, option: u8, nominated: u16) -> u8 {
         let first = self.seen == 0;
         if first || option < self.strictest {
@@ -160,7 +185,7 @@ impl Call {
     }
 
     /// A DLI3 in Divert; hands back the number shown, or 0.
-    #[inline]
+    #[inline(always)]
     fn dli3(&mut self, flag: u8, number: u16) -> u16 {
         if flag == 0 || self.cdo == 0 {
             return 0;
@@ -179,7 +204,7 @@ impl Call {
         }
     }
 
-    #[inline]
+    #[inline(always)]
     fn drop_leg_2(&mut self) {
         self.cdr = 0;
         self.forwarded = 0;
@@ -188,7 +213,7 @@ impl Call {
     }
 
     /// Leg 2 becomes leg 1; hands back the notice of its DLI1.
-    #[inline]
+    #[inline(always)]
     fn take_over(&mut self) -> u8 {
         let (reason, option, party) = (self.waiting_reason, self.waiting_option, self.forwarded);
         self.drop_leg_2();
@@ -196,7 +221,7 @@ impl Call {
         self.dli1(reason, option, party)
     }
 
-    #[inline]
+    #[inline(always)]
     pub fn message(&mut self, e: &Event) -> Answer {
         let invoked = self.cdr == 1;
         if (e.leg == 2 && !invoked)

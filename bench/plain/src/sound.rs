@@ -5,108 +5,186 @@ use crate::station::Station;
 
 /// Whether the table may be worked on. A done event keeps it so.
 pub fn sound(table: &[Call], station: &Station) -> bool {
-    if !(1..=64).contains(&table.len()) || !(1..=15).contains(&station.limit) {
+    if !(1..=64).contains(&table.len()) || !(1..=15).contains(&station.limit) || station.next == 0 {
         return false;
     }
-    if station.next == 0 {
-        return false;
-    }
-    let mut open = [0; 64];
-    let mut count = 0;
-    for call in table {
+    let mut marks = Marks([0; 16]);
+    for (i, call) in table.iter().enumerate() {
         if !call.sound(station.last) {
             return false;
         }
-        if call.cds == 1 {
-            // No early exit: the identifiers are few, and are compared eight at once.
-            let taken = |any, &other: &u16| any | (other == call.identifier);
-            if open[..count].iter().fold(false, taken) {
-                return false;
-            }
-            open[count] = call.identifier;
-            count += 1;
+        // A mark may be another identifier's; the records before this one are sound.
+        let identifier = call.identifier;
+        if identifier != 0
+            && marks.set(identifier)
+            && table[..i].iter().any(|c| c.identifier == identifier)
+        {
+            return false;
         }
     }
     true
 }
 
-impl Call {
+/// A bit for each identifier modulo 1024.
+struct Marks([u64; 16]);
+
+impl Marks {
+    /// Hands back whether it was set before.
     #[inline]
+    fn set(&mut self, identifier: u16) -> bool {
+        let word = &mut self.0[usize::from(identifier >> 6 & 15)];
+        let bit = 1 << (identifier & 63);
+        let before = *word & bit != 0;
+        *word |= bit;
+        before
+    }
+}
+
+/// A record's words on a little-endian machine, for tests of several fields at
+/// once. What each method hands back is 0 where all its fields are.
+struct Words {
+    codes: u64,
+    legs: u64,
+    middle: u64,
+    rest: u64,
+    start: u64,
+}
+
+impl Words {
+    #[inline(always)]
+    fn of(call: &Call) -> Words {
+        let [codes, legs, middle, rest, start] = call.words();
+        Words {
+            codes,
+            legs,
+            middle,
+            // without the bytes that are no field
+            rest: rest & 0xff_ffff_ffff,
+            start,
+        }
+    }
+
+    fn all(&self) -> u64 {
+        self.codes | self.legs | self.middle | self.rest | self.start
+    }
+
+    /// What only an outgoing call has.
+    fn outgoing(&self) -> u64 {
+        self.codes & 0xffff_0000 | self.legs | self.middle & 0xffff_ffff
+    }
+
+    /// What only an incoming call has.
+    fn incoming(&self) -> u64 {
+        (self.codes | self.middle) >> 32 | self.rest | self.start
+    }
+
+    /// Reason, option and number of the DLI1 that waits.
+    fn waiting(&self) -> u64 {
+        self.legs & 0xffff_ffff_0000
+    }
+
+    /// Seen, strictest, forbidden, shown, nominated.
+    fn history(&self) -> u64 {
+        self.legs >> 48 | self.middle & 0xffff_ffff
+    }
+
+    /// What is above 1 of forbidden and shown.
+    fn above_marks(&self) -> u64 {
+        self.middle & 0xfefe
+    }
+
+    /// Diverting and original.
+    fn diverted(&self) -> u64 {
+        self.middle >> 48 | self.rest & 0xffff
+    }
+
+    /// Identifier, reason and start.
+    fn request(&self) -> u64 {
+        self.rest >> 16 | self.start
+    }
+}
+
+impl Call {
+    #[inline(always)]
     fn sound(&self, last: u64) -> bool {
+        let w = Words::of(self);
         match self.direction {
-            FREE => self.basic == 0 && self.outgoing_unused() && self.incoming_unused(),
-            OUTGOING => self.sound_outgoing(),
-            INCOMING => self.sound_incoming(last),
+            FREE => w.all() == 0,
+            OUTGOING => {
+                w.incoming() == 0
+                    && self.party != 0
+                    && self.waiting_holds(&w)
+                    && self.history_holds(&w)
+            }
+            INCOMING => {
+                w.outgoing() == 0
+                    && self.own != 0
+                    && self.diversion_holds(&w)
+                    && self.request_holds(&w, last)
+            }
             _ => false,
         }
     }
 
-    /// All that only an outgoing call has is 0.
-    #[inline]
-    fn outgoing_unused(&self) -> bool {
-        let marks = self.cdo | self.cdr | self.seen | self.forbidden | self.shown;
-        let codes = self.waiting_reason | self.waiting_option | self.strictest;
-        let numbers = self.party | self.forwarded | self.nominated;
-        (marks | codes) == 0 && numbers == 0
+    #[inline(always)]
+    fn basic_holds(&self) -> bool {
+        (PROCEEDING..=ACTIVE).contains(&self.basic)
     }
 
-    /// All that only an incoming call has is 0.
-    #[inline]
-    fn incoming_unused(&self) -> bool {
-        let codes = self.cds | self.cdf | self.granted | self.counter | self.reason;
-        let numbers = self.own | self.diverting | self.original | self.identifier;
-        codes == 0 && numbers == 0 && self.start == 0
-    }
-
-    #[inline]
-    fn sound_outgoing(&self) -> bool {
-        let waiting = match self.cdr {
-            0 => self.waiting_reason == 0 && self.waiting_option == 0 && self.forwarded == 0,
+    #[inline(always)]
+    fn waiting_holds(&self, w: &Words) -> bool {
+        match self.cdr {
+            0 => w.waiting() == 0 && self.basic_holds(),
             1 => {
                 self.basic == RINGING
                     && self.waiting_reason == CFNR
                     && self.waiting_option <= 2
                     && self.forwarded != 0
             }
-            _ => return false,
-        };
-        let history = match self.seen {
-            0 => self.strictest | self.forbidden | self.shown == 0 && self.nominated == 0,
-            1 => {
-                self.strictest <= 2 && self.forbidden <= 1 && self.shown <= 1 && self.nominated != 0
-            }
-            _ => return false,
-        };
-        waiting
-            && history
-            && (PROCEEDING..=ACTIVE).contains(&self.basic)
-            && self.party != 0
-            && self.cdo == u8::from(self.seen == 1 && self.basic != ACTIVE)
-            && self.incoming_unused()
+            _ => false,
+        }
     }
 
-    #[inline]
-    fn sound_incoming(&self, last: u64) -> bool {
-        let diverted = match self.counter {
-            0 => self.cdf == 0 && self.diverting == 0 && self.original == 0,
-            1..=15 => (self.cdf == WAIT && self.basic != ACTIVE) || self.cdf == DONE,
-            _ => return false,
-        };
-        let fits = match self.reason {
-            1 | 2 => self.basic == PROCEEDING,
-            CFNR => self.basic == RINGING,
+    #[inline(always)]
+    fn history_holds(&self, w: &Words) -> bool {
+        match self.seen {
+            0 => w.history() | u64::from(self.cdo) == 0,
+            1 => {
+                self.strictest <= 2
+                    && w.above_marks() == 0
+                    && self.nominated != 0
+                    && self.cdo == u8::from(self.basic != ACTIVE)
+            }
             _ => false,
-        };
-        let request = match (self.cds, self.granted) {
-            (0, 0) => self.reason == 0 && self.identifier == 0 && self.start == 0,
-            (1, 0) => fits && self.identifier != 0 && self.start <= last,
-            (0, 1) => fits && self.identifier == 0 && self.start == 0,
-            _ => return false,
-        };
-        diverted
-            && request
-            && (PROCEEDING..=ACTIVE).contains(&self.basic)
-            && self.own != 0
-            && self.outgoing_unused()
+        }
+    }
+
+    #[inline(always)]
+    fn diversion_holds(&self, w: &Words) -> bool {
+        match self.counter {
+            0 => u64::from(self.cdf) | w.diverted() == 0,
+            1..=15 => self.cdf == DONE || (self.cdf == WAIT && self.basic != ACTIVE),
+            _ => false,
+        }
+    }
+
+    #[inline(always)]
+    fn request_holds(&self, w: &Words, last: u64) -> bool {
+        match (self.cds, self.granted) {
+            (0, 0) => w.request() == 0 && self.basic_holds(),
+            (1, 0) => self.reason_fits() && self.identifier != 0 && self.start <= last,
+            (0, 1) => self.reason_fits() && u64::from(self.identifier) | self.start == 0,
+            _ => false,
+        }
+    }
+
+    /// Cfu and cfb in Proceeding, cfnr in Received.
+    #[inline(always)]
+    fn reason_fits(&self) -> bool {
+        match self.basic {
+            PROCEEDING => self.reason == 1 || self.reason == 2,
+            RINGING => self.reason == CFNR,
+            _ => false,
+        }
     }
 }

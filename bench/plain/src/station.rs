@@ -2,7 +2,7 @@
 
 use crate::answer::{bare, Answer, Message};
 use crate::call::*;
-use crate::event::Event;
+use crate::event::{Event, Words};
 
 #[derive(Clone, Copy, Debug, PartialEq)]
 #[repr(C)]
@@ -21,18 +21,29 @@ impl Station {
         }
     }
 
-    #[inline]
-    pub fn step(&mut self, table: &mut [Call], e: &Event) -> Answer {
+    /// `w` are the words of `e`.
+    #[inline(always)]
+    pub fn step(&mut self, table: &mut [Call], e: &Event, w: Words) -> Answer {
         if e.time < self.last {
             return Answer::refused(2);
         }
-        if !e.well_made() {
-            return Answer::refused(3);
-        }
         let answer = match e.kind {
-            1..=3 => open(table, e),
-            10 => clock(table, e.time),
-            _ => self.named(table, e),
+            1 if w.open() => open(table, outgoing(e)),
+            2 if w.open() => open(table, incoming(e, 0)),
+            3 if w.open_diverted() => open(table, incoming(e, WAIT)),
+            4 if w.call_only() => on(table, e, INCOMING, |c| c.alerted(e)),
+            5 if w.answer() => on(table, e, INCOMING, |c| c.answered(e)),
+            6 if w.divert() => self.divert(table, e),
+            7 if w.outcome() => on(table, e, INCOMING, |c| c.granted_by(e)),
+            8 if w.outcome() => on(table, e, INCOMING, |c| c.turned_down_by(e)),
+            9 if w.call_only() => on(table, e, INCOMING, |c| c.leg_failed(e)),
+            10 if w.clock() => clock(table, e.time),
+            11 if w.call_only() => ended(table, e),
+            12 if w.reroute() => on(table, e, OUTGOING, |c| c.rerouted(e)),
+            13 if w.inform() => on(table, e, OUTGOING, |c| c.informed(e)),
+            14 if w.message() => on(table, e, OUTGOING, |c| c.message(e)),
+            15 if w.call_only() => on(table, e, INCOMING, |c| c.left(e)),
+            _ => Answer::refused(3),
         };
         if answer.code == 0 {
             self.last = e.time;
@@ -40,46 +51,18 @@ impl Station {
         answer
     }
 
-    #[inline]
-    fn named(&mut self, table: &mut [Call], e: &Event) -> Answer {
-        let Some(c) = table.get_mut(usize::from(e.call)) else {
-            return Answer::refused(4);
-        };
-        let there = match e.kind {
-            11 => c.direction != FREE,
-            12..=14 => c.direction == OUTGOING,
-            _ => c.direction == INCOMING,
-        };
-        if !there {
-            return Answer::refused(4);
-        }
-        match e.kind {
-            4 => c.alerted(e),
-            5 => c.answered(e),
-            6 => self.divert(table, e),
-            7 | 8 => c.outcome(e),
-            9 => c.leg_failed(e),
-            11 => c.ended(e),
-            12 => c.rerouted(e),
-            13 => c.informed(e),
-            14 => c.message(e),
-            _ => {
-                *c = Call::default();
-                Answer::done(e.call)
-            }
-        }
-    }
-
-    #[inline]
+    #[inline(always)]
     fn divert(&mut self, table: &mut [Call], e: &Event) -> Answer {
         let i = usize::from(e.call);
-        let c = &table[i];
-        let fits = if e.reason == CFNR {
-            c.basic == RINGING
-        } else {
-            c.basic == PROCEEDING
+        let Some(c) = table.get(i).filter(|c| c.direction == INCOMING) else {
+            return Answer::refused(4);
         };
-        if !fits || c.cds == 1 || c.granted == 1 {
+        let fits = if e.reason == CFNR {
+            RINGING
+        } else {
+            PROCEEDING
+        };
+        if c.basic != fits || c.cds == 1 || c.granted == 1 {
             return Answer::refused(5);
         }
         if c.counter >= self.limit {
@@ -89,14 +72,12 @@ impl Station {
         table[i].request(e, identifier)
     }
 
-    /// The first identifier from the next one on that no open request has.
-    #[inline]
+    /// The first identifier from the next one on that no open request has. No
+    /// other record has one.
+    #[inline(always)]
     fn draw(&mut self, table: &[Call]) -> u16 {
         let mut identifier = self.next;
-        while table
-            .iter()
-            .any(|d| d.cds == 1 && d.identifier == identifier)
-        {
+        while table.iter().any(|c| c.identifier == identifier) {
             identifier = after(identifier);
         }
         self.next = after(identifier);
@@ -105,41 +86,72 @@ impl Station {
 }
 
 /// The identifier after one: 1 to 65,535 in a round.
-#[inline]
+#[inline(always)]
 fn after(identifier: u16) -> u16 {
     identifier.wrapping_add(1).max(1)
 }
 
-#[inline]
-fn open(table: &mut [Call], e: &Event) -> Answer {
+/// What the event does to the call that it names, if that has the direction.
+#[inline(always)]
+fn on(
+    table: &mut [Call],
+    e: &Event,
+    direction: u8,
+    act: impl FnOnce(&mut Call) -> Answer,
+) -> Answer {
+    match table.get_mut(usize::from(e.call)) {
+        Some(c) if c.direction == direction => act(c),
+        _ => Answer::refused(4),
+    }
+}
+
+#[inline(always)]
+fn ended(table: &mut [Call], e: &Event) -> Answer {
+    match table.get_mut(usize::from(e.call)) {
+        Some(c) if c.direction != FREE => c.ended(e),
+        _ => Answer::refused(4),
+    }
+}
+
+#[inline(always)]
+fn outgoing(e: &Event) -> Call {
+    Call {
+        direction: OUTGOING,
+        basic: PROCEEDING,
+        party: e.first,
+        ..Call::default()
+    }
+}
+
+#[inline(always)]
+fn incoming(e: &Event, cdf: u8) -> Call {
+    Call {
+        direction: INCOMING,
+        basic: PROCEEDING,
+        cdf,
+        counter: e.counter,
+        own: e.first,
+        diverting: e.second,
+        original: e.third,
+        ..Call::default()
+    }
+}
+
+#[inline(always)]
+fn open(table: &mut [Call], call: Call) -> Answer {
     let Some(i) = table.iter().position(|c| c.direction == FREE) else {
         return Answer::refused(8);
     };
-    table[i] = if e.kind == 1 {
-        Call {
-            direction: OUTGOING,
-            basic: PROCEEDING,
-            party: e.first,
-            ..Call::default()
-        }
-    } else {
-        Call {
-            direction: INCOMING,
-            basic: PROCEEDING,
-            cdf: if e.kind == 3 { WAIT } else { 0 },
-            counter: e.counter,
-            own: e.first,
-            diverting: e.second,
-            original: e.third,
-            ..Call::default()
-        }
-    };
+    table[i] = call;
     Answer::done(i as u8)
 }
 
-#[inline]
+#[inline(always)]
 fn clock(table: &mut [Call], time: u64) -> Answer {
-    let due = |c: &Call| c.cds == 1 && time.saturating_sub(c.start) >= 10_000;
+    let Some(latest) = time.checked_sub(T1) else {
+        return Answer::refused(0);
+    };
+    let due = |c: &Call| c.cds == 1 && c.start <= latest;
     let Some(i) = table.iter().position(due) else {
         return Answer::refused(0);
     };
@@ -154,7 +166,7 @@ fn clock(table: &mut [Call], time: u64) -> Answer {
 
 impl Call {
     /// Enters Requested, and sends the invoke.
-    #[inline]
+    #[inline(always)]
     fn request(&mut self, e: &Event, identifier: u16) -> Answer {
         self.cds = 1;
         self.reason = e.reason;

@@ -11,9 +11,10 @@ use Rattle.ground.specs.Choice.{when_then_else_}
 use Rattle.ground.proofs.Bools.{by-cases}
 use Rattle.ground.proofs.Walks.{and-false}
 use Rattle.event.specs.declared.Event.{Event}
-use Rattle.event.specs.Kinds.{cfnr, alerting, connect, releaseComplete, onLeg2, opens, ofIncoming, ofOutgoing, clock}
+use Rattle.event.specs.Kinds.{cfnr, allowed, forbidden, alerting, connect, releaseComplete, onLeg2, opens, ofIncoming, ofOutgoing, clock}
+use Rattle.event.specs.Fields.{option-is, flag-is}
 use Rattle.event.specs.WellMade.{wellMade}
-use Rattle.notice.specs.Notice.{noNotice, noNumber, allowed, forbidden, noHistory}
+use Rattle.notice.specs.Notice.{noNotice, noNumber, noHistory}
 use Rattle.notice.specs.Stricter.{ShownOnlyWhere, agreed, StricterDli1, lowered, StricterFlag, kept, forbade, StricterHistory}
 use Rattle.notice.proofs.Stricter.{dli1-stricter, notice-stricter, number-stricter, dli3-stricter, history-stricter}
 use Rattle.call.specs.declared.Call.{Call}
@@ -25,7 +26,7 @@ use Rattle.call.specs.Fields.{basic-is}
 use Rattle.call.specs.Incoming.{due, expired, actIncoming}
 use Rattle.call.specs.Outgoing.{dli1Of, turnsDown, redirected, forwarded, rerouted, informed, handOver, cdrIdle, movedOver, withDli3, numberFor, afterMessage, takenOver, onFirstLeg, leg2Remains, messaged, actOutgoing}
 use Rattle.call.specs.Act.{opened, ended, act}
-use Rattle.call.specs.Stricter.{option-is, flag-is, StricterEvent, same, lower, hide, StricterCall, stricter, StricterEffect}
+use Rattle.call.specs.Stricter.{StricterEvent, same, lower, hide, StricterCall, stricter, StricterEffect}
 
 -- a decision keeps a relation
 pub when-keeps : {A : Type 0} (R : A → A → Type 0) (b : Bool) {x x' y y' : A} → (T b → R x x') → R y y' → R (when b then x else y) (when b then x' else y')

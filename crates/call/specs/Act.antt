@@ -4,7 +4,7 @@ use mathlib.Core.Bool.{Bool}
 use lib.Dec.{eqb}
 use Rattle.ground.specs.Choice.{when_then_else_}
 use Rattle.event.specs.declared.Event.{Event}
-use Rattle.event.specs.Kinds.{opens, ofIncoming, ofOutgoing, clock}
+use Rattle.event.specs.Kinds.{OpenOutgoing, opens, ofIncoming, ofOutgoing, clock}
 use Rattle.call.specs.declared.Call.{Call}
 use Rattle.call.specs.declared.Effect.{Effect}
 use Rattle.call.specs.Record.{invoked, freeCall}
@@ -14,7 +14,7 @@ use Rattle.call.specs.Outgoing.{openedOutgoing, actOutgoing}
 
 -- "1" to "3": "An open .. sends nothing: the host has sent the SETUP."
 abbrev pub opened : Event → Effect
-opened e = when eqb (e .kind) 1 then silent (openedOutgoing e) else silent (openedIncoming e)
+opened e = when eqb (e .kind) OpenOutgoing then silent (openedOutgoing e) else silent (openedIncoming e)
 
 -- "11 sends RELEASE COMPLETE, .. the record is free and its request ended"; outgoing "11 frees it too: RELEASE COMPLETE on
 -- leg 1, then on leg 2 in Invoked."

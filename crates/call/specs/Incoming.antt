@@ -4,25 +4,26 @@ use mathlib.Core.Bool.{Bool, _&&_}
 use lib.Dec.{leb, eqb}
 use Rattle.ground.specs.Choice.{when_then_else_}
 use Rattle.event.specs.declared.Event.{Event}
-use Rattle.notice.specs.Notice.{noNotice, noNumber, noHistory}
+use Rattle.event.specs.Kinds.{allowed, OpenWithDli2, UserAlerted, UserAnswers, DivertCall, ReroutingResult, ReroutingError, DivertedLegFailed}
+use Rattle.notice.specs.Notice.{noNotice, noNumber, unmarked, marked, noHistory}
 use Rattle.call.specs.declared.Call.{Call}
 use Rattle.call.specs.declared.Message.{Message}
 use Rattle.call.specs.declared.Effect.{Effect}
-use Rattle.call.specs.Record.{requested, wait, undiverted, noDli1, freeCall}
+use Rattle.call.specs.Record.{incoming, Proceeding, Received, Active, Idle, Requested, CdfNone, Wait, CdfDone, requested, wait, undiverted, noDli1, freeCall}
 use Rattle.call.specs.Fields.{basic-is, cds-is, cdf-is, granted-is, identifier-is, reason-is, start-is}
-use Rattle.call.specs.Messages.{noCounter, alertingOn, connectOn, connectWithDli3, one, nothing, sending, silent}
+use Rattle.call.specs.Messages.{noCounter, letterI, alertingOn, connectOn, connectWithDli3, one, nothing, sending, silent}
 
 -- "2 open incoming", "3 open incoming with divertingLegInformation2 (DLI2)": "An open starts in Proceeding, services Idle, kind 3 in CDF Wait (its
 -- reason isn't kept), and sends nothing"
 abbrev pub openedIncoming : Event → Call
 openedIncoming e = record {
-  direction = 2;
-  basic = 1;
+  direction = incoming;
+  basic = Proceeding;
   cdo = 0;
   cdr = 0;
-  cds = 0;
-  cdf = when eqb (e .kind) 3 then 1 else 0;
-  granted = 0;
+  cds = Idle;
+  cdf = when eqb (e .kind) OpenWithDli2 then Wait else CdfNone;
+  granted = unmarked;
   counter = e .counter;
   party = 0;
   waiting = noDli1;
@@ -37,22 +38,22 @@ openedIncoming e = record {
 
 -- "4: Proceeding becomes Received, ALERTING."
 abbrev pub alerted : Call → Effect
-alerted c = sending (basic-is 2 c) (one (alertingOn 1))
+alerted c = sending (basic-is Received c) (one (alertingOn 1))
 
 -- "8: Idle, not granted": a request or grant with all that belongs to it is gone
 abbrev pub idle : Call → Call
-idle c = cds-is 0 (granted-is 0 (identifier-is 0 (reason-is 0 (start-is 0 c))))
+idle c = cds-is Idle (granted-is unmarked (identifier-is 0 (reason-is 0 (start-is 0 c))))
 
 -- "DLI3 with the flag, and the own number only if allowed"
 abbrev pub ownIfAllowed : Call → Event → ℕ
-ownIfAllowed c e = when eqb (e .flag) 1 then c .own else 0
+ownIfAllowed c e = when eqb (e .flag) allowed then c .own else noNumber
 
 -- "5: Proceeding or Received becomes Active, CONNECT; in Wait it carries DLI3 .., and CDF is done. .. Kind 5 ends an open
 -- cfnr request or grant (ours)."
 abbrev pub answered : Call → Event → Effect
 answered c e =
-    when wait c then sending (cdf-is 2 (basic-is 3 (idle c))) (one (connectWithDli3 1 (e .flag) (ownIfAllowed c e))) else
-    sending (basic-is 3 (idle c)) (one (connectOn 1))
+    when wait c then sending (cdf-is CdfDone (basic-is Active (idle c))) (one (connectWithDli3 1 (e .flag) (ownIfAllowed c e))) else
+    sending (basic-is Active (idle c)) (one (connectOn 1))
 
 -- "counter plus 1"
 abbrev pub counterSent : Call → ℕ
@@ -69,7 +70,7 @@ originalSent c =
 -- rerouting number, and as original called number .."
 abbrev pub invokeOf : Call → Event → ℕ → Message
 invokeOf c e identifier = record {
-  letter = 73;
+  letter = letterI;
   leg = 1;
   reason = e .reason;
   option = e .option;
@@ -84,7 +85,7 @@ invokeOf c e identifier = record {
 
 -- "Enters Requested, starts T1."
 abbrev pub asking : Call → Event → ℕ → Call
-asking c e identifier = cds-is 1 (reason-is (e .reason) (identifier-is identifier (start-is (e .time) c)))
+asking c e identifier = cds-is Requested (reason-is (e .reason) (identifier-is identifier (start-is (e .time) c)))
 
 -- "6: .."
 abbrev pub diverted : Call → Event → ℕ → Effect
@@ -99,7 +100,7 @@ diverted c e identifier = record {
 
 -- "7: Idle, granted."
 abbrev pub grant : Call → Call
-grant c = cds-is 0 (granted-is 1 (identifier-is 0 (start-is 0 c)))
+grant c = cds-is Idle (granted-is marked (identifier-is 0 (start-is 0 c)))
 
 -- T1's length: "time minus start at least 10,000"
 abbrev pub t1 : ℕ
@@ -123,10 +124,10 @@ expired c = record {
 -- "4" to "9" and "15"; "9: .. clears it"; "15 nothing; the record is free and its request ended"
 unfoldable pub actIncoming : Call → Event → ℕ → Effect
 actIncoming c e identifier =
-    when eqb (e .kind) 4 then alerted c else
-    when eqb (e .kind) 5 then answered c e else
-    when eqb (e .kind) 6 then diverted c e identifier else
-    when eqb (e .kind) 7 then silent (grant c) else
-    when eqb (e .kind) 8 then silent (idle c) else
-    when eqb (e .kind) 9 then silent (idle c) else
+    when eqb (e .kind) UserAlerted then alerted c else
+    when eqb (e .kind) UserAnswers then answered c e else
+    when eqb (e .kind) DivertCall then diverted c e identifier else
+    when eqb (e .kind) ReroutingResult then silent (grant c) else
+    when eqb (e .kind) ReroutingError then silent (idle c) else
+    when eqb (e .kind) DivertedLegFailed then silent (idle c) else
     silent freeCall

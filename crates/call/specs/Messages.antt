@@ -14,9 +14,50 @@ noIdentifier = 65536
 abbrev pub noCounter : ℕ
 noCounter = 0
 
+-- a message that isn't sent has no letter
+abbrev pub noLetter : ℕ
+noLetter = 0
+
+-- "Letters": their ASCII numbers
+-- "A ALERTING"
+abbrev pub letterA : ℕ
+letterA = 65
+
+-- "C CONNECT"
+abbrev pub letterC : ℕ
+letterC = 67
+
+-- "D CONNECT with DLI3"
+abbrev pub letterD : ℕ
+letterD = 68
+
+-- "I invoke"
+abbrev pub letterI : ℕ
+letterI = 73
+
+-- "R result"
+abbrev pub letterR : ℕ
+letterR = 82
+
+-- "E error"
+abbrev pub letterE : ℕ
+letterE = 69
+
+-- "X RELEASE COMPLETE"
+abbrev pub letterX : ℕ
+letterX = 88
+
+-- "S SETUP"
+abbrev pub letterS : ℕ
+letterS = 83
+
+-- "F leg failed"
+abbrev pub letterF : ℕ
+letterF = 70
+
 abbrev pub noMessage : Message
 noMessage = record {
-  letter = 0;
+  letter = noLetter;
   leg = 0;
   reason = 0;
   option = 0;
@@ -29,7 +70,7 @@ noMessage = record {
   number = 0;
 }
 
--- a message that has a letter (its ASCII number) and a leg alone
+-- a message that has a letter and a leg alone
 abbrev pub bare : ℕ → ℕ → Message
 bare letter leg = record {
   letter = letter;
@@ -45,23 +86,22 @@ bare letter leg = record {
   number = 0;
 }
 
--- "A ALERTING", "C CONNECT", "X RELEASE COMPLETE", "F leg failed"
 abbrev pub alertingOn : ℕ → Message
-alertingOn leg = bare 65 leg
+alertingOn leg = bare letterA leg
 
 abbrev pub connectOn : ℕ → Message
-connectOn leg = bare 67 leg
+connectOn leg = bare letterC leg
 
 abbrev pub releaseOn : ℕ → Message
-releaseOn leg = bare 88 leg
+releaseOn leg = bare letterX leg
 
 abbrev pub legFailedOn : ℕ → Message
-legFailedOn leg = bare 70 leg
+legFailedOn leg = bare letterF leg
 
--- "D CONNECT with DLI3": its flag and number
+-- a CONNECT with DLI3: its flag and number
 abbrev pub connectWithDli3 : ℕ → ℕ → ℕ → Message
 connectWithDli3 leg flag number = record {
-  letter = 68;
+  letter = letterD;
   leg = leg;
   reason = 0;
   option = 0;
@@ -74,7 +114,7 @@ connectWithDli3 leg flag number = record {
   number = number;
 }
 
--- "R result", "E error": "Results and errors echo the identifier."
+-- "Results and errors echo the identifier."
 abbrev pub echoOn : ℕ → ℕ → ℕ → Message
 echoOn letter leg identifier = record {
   letter = letter;
@@ -91,10 +131,10 @@ echoOn letter leg identifier = record {
 }
 
 abbrev pub resultOn : ℕ → ℕ → Message
-resultOn leg identifier = echoOn 82 leg identifier
+resultOn leg identifier = echoOn letterR leg identifier
 
 abbrev pub errorOn : ℕ → ℕ → Message
-errorOn leg identifier = echoOn 69 leg identifier
+errorOn leg identifier = echoOn letterE leg identifier
 
 abbrev pub nothing : Sent
 nothing = record { first = noMessage; second = noMessage; third = noMessage }

@@ -4,7 +4,7 @@ use mathlib.Core.Bool.{Bool, _&&_, _||_, not}
 use lib.Dec.{eqb}
 use Rattle.ground.specs.Choice.{when_then_else_}
 use Rattle.event.specs.declared.Event.{Event}
-use Rattle.event.specs.Kinds.{cfnr, alerting, connect, releaseComplete, onLeg2}
+use Rattle.event.specs.Kinds.{cfnr, alerting, connect, releaseComplete, onLeg2, ReroutingInvoke, Dli1Received}
 use Rattle.notice.specs.declared.Dli1.{Dli1}
 use Rattle.notice.specs.declared.History.{History}
 use Rattle.notice.specs.declared.Noticed.{Noticed}
@@ -13,17 +13,17 @@ use Rattle.call.specs.declared.Call.{Call}
 use Rattle.call.specs.declared.Message.{Message}
 use Rattle.call.specs.declared.Sent.{Sent}
 use Rattle.call.specs.declared.Effect.{Effect}
-use Rattle.call.specs.Record.{active, delivered, divert, invoked, noDli1, freeCall, forwardedParty}
+use Rattle.call.specs.Record.{outgoing, Proceeding, Delivered, Active, Idle, Divert, Invoked, active, delivered, divert, invoked, noDli1, freeCall, forwardedParty}
 use Rattle.call.specs.Fields.{basic-is, cdo-is, cdr-is, party-is, waiting-is, history-is}
-use Rattle.call.specs.Messages.{noIdentifier, noCounter, releaseOn, legFailedOn, resultOn, errorOn, nothing, one, two, three, sending, silent}
+use Rattle.call.specs.Messages.{noIdentifier, noCounter, letterS, releaseOn, legFailedOn, resultOn, errorOn, nothing, one, two, three, sending, silent}
 
 -- "1 open outgoing": "An open starts in Proceeding, services Idle"
 abbrev pub openedOutgoing : Event → Call
 openedOutgoing e = record {
-  direction = 1;
-  basic = 1;
-  cdo = 0;
-  cdr = 0;
+  direction = outgoing;
+  basic = Proceeding;
+  cdo = Idle;
+  cdr = Idle;
   cds = 0;
   cdf = 0;
   granted = 0;
@@ -45,13 +45,13 @@ dli1Of e = record { reason = e .reason; option = e .option; number = e .second }
 
 -- "DLI1: CDO Divert."
 abbrev pub toCdo : Noticed → Call → Call
-toCdo n c = cdo-is 1 (history-is (n .history) c)
+toCdo n c = cdo-is Divert (history-is (n .history) c)
 
 -- "SETUP with DLI2 to the destination": "DLI2 holds counter, reason, the leg 1 party before the event as diverting number,
 -- and the original called number received."
 abbrev pub setupOn : ℕ → Call → Event → Message
 setupOn leg c e = record {
-  letter = 83;
+  letter = letterS;
   leg = leg;
   reason = e .reason;
   option = 0;
@@ -83,7 +83,7 @@ turnedDown c e = record {
 -- DLI1 (reason, option, destination) to the own CDO."
 abbrev pub redirected : Call → Event → Effect
 redirected c e = record {
-  call = basic-is 1 (party-is (e .second) (toCdo (takeDli1 (c .history) (dli1Of e)) c));
+  call = basic-is Proceeding (party-is (e .second) (toCdo (takeDli1 (c .history) (dli1Of e)) c));
   sent = three (resultOn 1 (e .identifier)) (releaseOn 1) (setupOn 1 c e);
   notice = takeDli1 (c .history) (dli1Of e) .notice;
   number = noNumber;
@@ -94,7 +94,7 @@ redirected c e = record {
 -- "Else cfnr: return result on leg 1, SETUP with DLI2 on leg 2, Invoked."
 abbrev pub forwarded : Call → Event → Effect
 forwarded c e = record {
-  call = cdr-is 1 (waiting-is (dli1Of e) c);
+  call = cdr-is Invoked (waiting-is (dli1Of e) c);
   sent = two (resultOn 1 (e .identifier)) (setupOn 2 c e);
   notice = noNotice;
   number = noNumber;
@@ -126,7 +126,7 @@ handOver c = takeDli1 (c .history) (c .waiting)
 
 -- "CDR Idle": nothing waits any more
 abbrev pub cdrIdle : Call → Call
-cdrIdle c = cdr-is 0 (waiting-is noDli1 c)
+cdrIdle c = cdr-is Idle (waiting-is noDli1 c)
 
 -- "leg 2 becomes leg 1, CDR Idle, DLI1 to the CDO"
 abbrev pub movedOver : Call → Call
@@ -142,8 +142,8 @@ numberFor c e = when divert c then numberShown (c .history) (e .flag) (e .second
 -- "ALERTING gives Delivered, CONNECT Active and, after its DLI3, CDO Idle."
 abbrev pub afterMessage : Event → Call → Call
 afterMessage e c =
-    when alerting e then basic-is 2 c else
-    when connect e then basic-is 3 (cdo-is 0 c) else
+    when alerting e then basic-is Delivered c else
+    when connect e then basic-is Active (cdo-is Idle c) else
     c
 
 -- "In Invoked, ALERTING or CONNECT on leg 2: RELEASE COMPLETE on leg 1, leg 2 becomes leg 1, CDR Idle, DLI1 to the CDO, then a DLI3."
@@ -171,7 +171,7 @@ onFirstLeg c e = record {
 -- "RELEASE on leg 1: leg 2 becomes leg 1, Proceeding, CDR Idle, DLI1 to the CDO (ours)."
 abbrev pub leg2Remains : Call → Effect
 leg2Remains c = record {
-  call = basic-is 1 (movedOver c);
+  call = basic-is Proceeding (movedOver c);
   sent = nothing;
   notice = handOver c .notice;
   number = noNumber;
@@ -196,6 +196,6 @@ messaged c e =
 -- "12" to "14"
 unfoldable pub actOutgoing : Call → Event → Effect
 actOutgoing c e =
-    when eqb (e .kind) 12 then rerouted c e else
-    when eqb (e .kind) 13 then informed c e else
+    when eqb (e .kind) ReroutingInvoke then rerouted c e else
+    when eqb (e .kind) Dli1Received then informed c e else
     messaged c e

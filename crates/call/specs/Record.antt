@@ -1,57 +1,100 @@
--- "What a record may hold": the states by their names.
+-- "What a record may hold": the states by their names. A state's name begins with a capital letter; what tests a record for it does not.
 use Prim.Native.Nat.{ℕ}
 use mathlib.Core.Bool.{Bool, _&&_, _||_, not}
 use lib.Dec.{eqb}
 use Rattle.event.specs.Kinds.{cfu, cfb, cfnr}
 use Rattle.notice.specs.declared.Dli1.{Dli1}
-use Rattle.notice.specs.Notice.{noHistory}
+use Rattle.notice.specs.Notice.{marked, noHistory}
 use Rattle.call.specs.declared.Call.{Call}
 
 -- "A record is free, outgoing or incoming."
+abbrev pub free : ℕ
+free = 0
+
+abbrev pub outgoing : ℕ
+outgoing = 1
+
+abbrev pub incoming : ℕ
+incoming = 2
+
 abbrev pub isFree : Call → Bool
-isFree c = eqb (c .direction) 0
+isFree c = eqb (c .direction) free
 
 abbrev pub isOutgoing : Call → Bool
-isOutgoing c = eqb (c .direction) 1
+isOutgoing c = eqb (c .direction) outgoing
 
 abbrev pub isIncoming : Call → Bool
-isIncoming c = eqb (c .direction) 2
+isIncoming c = eqb (c .direction) incoming
 
 -- "basic state Proceeding, Delivered or Active", "basic state Proceeding, Received or Active"
+abbrev pub Proceeding : ℕ
+Proceeding = 1
+
+abbrev pub Delivered : ℕ
+Delivered = 2
+
+abbrev pub Received : ℕ
+Received = 2
+
+abbrev pub Active : ℕ
+Active = 3
+
 abbrev pub proceeding : Call → Bool
-proceeding c = eqb (c .basic) 1
+proceeding c = eqb (c .basic) Proceeding
 
 abbrev pub delivered : Call → Bool
-delivered c = eqb (c .basic) 2
+delivered c = eqb (c .basic) Delivered
 
 abbrev pub received : Call → Bool
-received c = eqb (c .basic) 2
+received c = eqb (c .basic) Received
 
 abbrev pub active : Call → Bool
-active c = eqb (c .basic) 3
+active c = eqb (c .basic) Active
+
+-- "CDO Idle", "CDR Idle", "CDS Idle"
+abbrev pub Idle : ℕ
+Idle = 0
 
 -- "CDO Idle or Divert"
+abbrev pub Divert : ℕ
+Divert = 1
+
 abbrev pub divert : Call → Bool
-divert c = eqb (c .cdo) 1
+divert c = eqb (c .cdo) Divert
 
 -- "CDR Idle or Invoked"
+abbrev pub Invoked : ℕ
+Invoked = 1
+
 abbrev pub invoked : Call → Bool
-invoked c = eqb (c .cdr) 1
+invoked c = eqb (c .cdr) Invoked
 
 -- "CDS Idle or Requested"
+abbrev pub Requested : ℕ
+Requested = 1
+
 abbrev pub requested : Call → Bool
-requested c = eqb (c .cds) 1
+requested c = eqb (c .cds) Requested
 
 -- "CDF none, Wait or done"
+abbrev pub CdfNone : ℕ
+CdfNone = 0
+
+abbrev pub Wait : ℕ
+Wait = 1
+
+abbrev pub CdfDone : ℕ
+CdfDone = 2
+
 abbrev pub cdfNone : Call → Bool
-cdfNone c = eqb (c .cdf) 0
+cdfNone c = eqb (c .cdf) CdfNone
 
 abbrev pub wait : Call → Bool
-wait c = eqb (c .cdf) 1
+wait c = eqb (c .cdf) Wait
 
 -- "a granted mark with its reason"
 abbrev pub granted : Call → Bool
-granted c = eqb (c .granted) 1
+granted c = eqb (c .granted) marked
 
 -- "counter 0 to 15 (0: no diversion)"
 abbrev pub undiverted : Call → Bool
@@ -68,7 +111,7 @@ noDli1 = record { reason = 0; option = 0; number = 0 }
 -- a free record: "each unused field is 0"
 abbrev pub freeCall : Call
 freeCall = record {
-  direction = 0;
+  direction = free;
   basic = 0;
   cdo = 0;
   cdr = 0;

@@ -3,12 +3,12 @@ use Prim.Native.Nat.{ℕ}
 use mathlib.Core.Bool.{Bool, false, _&&_, _||_, not}
 use lib.Dec.{leb, eqb}
 use Rattle.ground.specs.Choice.{when_then_else_}
-use Rattle.event.specs.Kinds.{cfnr}
+use Rattle.event.specs.Kinds.{cfnr, withNumber}
 use Rattle.notice.specs.declared.Dli1.{Dli1}
 use Rattle.notice.specs.declared.History.{History}
-use Rattle.notice.specs.Notice.{seen}
+use Rattle.notice.specs.Notice.{marked, seen}
 use Rattle.call.specs.declared.Call.{Call}
-use Rattle.call.specs.Record.{isFree, isOutgoing, isIncoming, active, delivered, divert, invoked, requested, wait, granted, undiverted, cdfNone, fits}
+use Rattle.call.specs.Record.{Proceeding, Active, Divert, Invoked, Requested, CdfDone, isFree, isOutgoing, isIncoming, active, delivered, divert, invoked, requested, wait, granted, undiverted, cdfNone, fits}
 
 -- a exactly when b
 abbrev pub exactly : Bool → Bool → Bool
@@ -38,7 +38,7 @@ incomingUnused c =
 
 -- "each code is in range": "basic state Proceeding, Delivered or Active; CDO Idle or Divert; CDR Idle or Invoked"
 abbrev pub outgoingCodes : Call → Bool
-outgoingCodes c = leb 1 (c .basic) && leb (c .basic) 3 && leb (c .cdo) 1 && leb (c .cdr) 1
+outgoingCodes c = leb Proceeding (c .basic) && leb (c .basic) Active && leb (c .cdo) Divert && leb (c .cdr) Invoked
 
 -- "each party .. is not 0": "the party on leg 1"
 abbrev pub partyThere : Call → Bool
@@ -48,14 +48,14 @@ partyThere c = not (eqb (c .party) 0)
 -- "each code is in range, each party .. is not 0"
 abbrev pub waitingHolds : Call → Bool
 waitingHolds c =
-    when invoked c then delivered c && eqb (c .waiting .reason) cfnr && leb (c .waiting .option) 2 && not (eqb (c .waiting .number) 0) else
+    when invoked c then delivered c && eqb (c .waiting .reason) cfnr && leb (c .waiting .option) withNumber && not (eqb (c .waiting .number) 0) else
     dli1Unused (c .waiting)
 
 -- "the history: DLI1 seen, strictest option, a forbidden DLI3 seen, number shown, last nominated number. It is all 0
 -- before the first DLI1"; "each code is in range, .. (DLI1 seen) nominated number is not 0"
 abbrev pub historyHolds : History → Bool
 historyHolds h =
-    when seen h then leb (h .strictest) 2 && leb (h .forbidden) 1 && leb (h .shown) 1 && not (eqb (h .nominated) 0) else
+    when seen h then leb (h .strictest) withNumber && leb (h .forbidden) marked && leb (h .shown) marked && not (eqb (h .nominated) 0) else
     historyUnused h
 
 -- "CDO is Divert exactly when a DLI1 was seen and the state isn't Active"
@@ -71,8 +71,8 @@ soundOutgoing c =
 -- counter 0 to 15 ..; in Requested the reason ..; a granted mark"
 abbrev pub incomingCodes : Call → Bool
 incomingCodes c =
-    leb 1 (c .basic) && leb (c .basic) 3 && leb (c .cds) 1 && leb (c .cdf) 2 && leb (c .granted) 1 && leb (c .counter) 15
-    && leb (c .reason) 3
+    leb Proceeding (c .basic) && leb (c .basic) Active && leb (c .cds) Requested && leb (c .cdf) CdfDone
+    && leb (c .granted) marked && leb (c .counter) 15 && leb (c .reason) cfnr
 
 -- "each .. own .. number is not 0"
 abbrev pub ownThere : Call → Bool

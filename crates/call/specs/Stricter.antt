@@ -4,55 +4,21 @@ use Prim.Native.Nat.{ℕ, _≤_, _<_}
 use mathlib.Core.Path.{_≡_}
 use mathlib.Core.Logic.{_⊎_}
 use Rattle.event.specs.declared.Event.{Event}
+use Rattle.event.specs.Kinds.{withNumber, allowed, forbidden, ReroutingInvoke, Dli1Received, OutgoingMessage}
+use Rattle.event.specs.Fields.{option-is, flag-is}
 use Rattle.notice.specs.declared.Dli1.{Dli1}
 use Rattle.notice.specs.declared.History.{History}
-use Rattle.notice.specs.Notice.{noNotice, noNumber, allowed, forbidden}
+use Rattle.notice.specs.Notice.{noNotice, noNumber}
 use Rattle.notice.specs.Stricter.{ShownOnlyWhere, StricterDli1, StricterHistory}
 use Rattle.call.specs.declared.Call.{Call}
 use Rattle.call.specs.declared.Effect.{Effect}
 use Rattle.call.specs.Fields.{waiting-is, history-is}
 
--- an event with another option
-abbrev pub option-is : ℕ → Event → Event
-option-is x e = record {
-  kind = e .kind;
-  call = e .call;
-  leg = e .leg;
-  message = e .message;
-  reason = e .reason;
-  option = x;
-  counter = e .counter;
-  flag = e .flag;
-  identifier = e .identifier;
-  first = e .first;
-  second = e .second;
-  third = e .third;
-  time = e .time;
-}
-
--- an event with another flag
-abbrev pub flag-is : ℕ → Event → Event
-flag-is x e = record {
-  kind = e .kind;
-  call = e .call;
-  leg = e .leg;
-  message = e .message;
-  reason = e .reason;
-  option = e .option;
-  counter = e .counter;
-  flag = x;
-  identifier = e .identifier;
-  first = e .first;
-  second = e .second;
-  third = e .third;
-  time = e .time;
-}
-
 -- "options on received invokes (kinds 12, 13) become stricter or presentation marks (kind 14) turn from allowed to forbidden"
 pub data StricterEvent : Event → Event → Type 0 where
   same : (e : Event) → StricterEvent e e
-  lower : (e : Event) (option : ℕ) → (e .kind ≡ 12) ⊎ (e .kind ≡ 13) → option < e .option → e .option ≤ 2 → StricterEvent e (option-is option e)
-  hide : (e : Event) → e .kind ≡ 14 → StricterEvent (flag-is allowed e) (flag-is forbidden e)
+  lower : (e : Event) (option : ℕ) → (e .kind ≡ ReroutingInvoke) ⊎ (e .kind ≡ Dli1Received) → option < e .option → e .option ≤ withNumber → StricterEvent e (option-is option e)
+  hide : (e : Event) → e .kind ≡ OutgoingMessage → StricterEvent (flag-is allowed e) (flag-is forbidden e)
 
 -- all fields equal but the option that waits with leg 2 and the history's strictest option and marks
 pub data StricterCall : Call → Call → Type 0 where

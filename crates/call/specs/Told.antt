@@ -8,11 +8,11 @@ use lib.Dec.{T, eqb}
 use lib.ListN.{length}
 use Rattle.ground.specs.Choice.{when_then_else_}
 use Rattle.event.specs.declared.Event.{Event}
-use Rattle.event.specs.Kinds.{cfu, cfb, alerting, connect, releaseComplete, onLeg2, opens}
+use Rattle.event.specs.Kinds.{cfu, cfb, allowed, forbidden, ReroutingInvoke, Dli1Received, OutgoingMessage, alerting, connect, releaseComplete, onLeg2, opens}
 use Rattle.event.specs.WellMade.{wellMade}
 use Rattle.notice.specs.declared.Dli1.{Dli1}
 use Rattle.notice.specs.declared.History.{History}
-use Rattle.notice.specs.Notice.{noNotice, noNumber, allowed, forbidden}
+use Rattle.notice.specs.Notice.{noNotice, noNumber}
 use Rattle.notice.specs.Whole.{may, mayNot, Told, dli1, dli3, optionsOf, marksOf, diverted, counted, optionsOk, lastNominated, shows, numberFor, notZero, notices, historyOf}
 use Rattle.call.specs.declared.Call.{Call}
 use Rattle.call.specs.declared.Effect.{Effect}
@@ -55,9 +55,9 @@ messageTells c e =
 -- what an event that the record takes brings to the CDO; "13: .." is a DLI1 received
 unfoldable pub tells : Call → Event → List Told
 tells c e =
-    when eqb (e .kind) 12 then (when carriesOver c e then dli1 (dli1Of e) ∷ [] else []) else
-    when eqb (e .kind) 13 then dli1 (dli1Of e) ∷ [] else
-    when eqb (e .kind) 14 then messageTells c e else
+    when eqb (e .kind) ReroutingInvoke then (when carriesOver c e then dli1 (dli1Of e) ∷ [] else []) else
+    when eqb (e .kind) Dli1Received then dli1 (dli1Of e) ∷ [] else
+    when eqb (e .kind) OutgoingMessage then messageTells c e else
     []
 
 -- "DLI1 .. , then a DLI3": at most one of each
@@ -70,7 +70,7 @@ TellsOnce = (c : Call) (e : Event) → Once (tells c e)
 
 -- "Else cfnr: .. Invoked": the DLI1 that waits after an event is that of the invoke, if it carried one out, else the one before
 abbrev pub waitsAfter : Call → Event → Dli1
-waitsAfter c e = when eqb (e .kind) 12 && not (turnsDown c e) then dli1Of e else c .waiting
+waitsAfter c e = when eqb (e .kind) ReroutingInvoke && not (turnsDown c e) then dli1Of e else c .waiting
 
 abbrev pub ActWaits : Type 0
 ActWaits =

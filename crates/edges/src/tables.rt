@@ -90,7 +90,7 @@ pub fn fresh_codes() {
 }
 
 // The board with a record of the host's in its first place, at the last time 10.
-fn with(c: Call, position: u64) -> Show {
+fn with(c: Call, position: u32) -> Show {
     let mut b = panel::start();
     b.station.last = 10;
     b.calls[0] = c;
@@ -100,7 +100,7 @@ fn with(c: Call, position: u64) -> Show {
     }
 }
 
-fn ticked(c: Call, position: u64) {
+fn ticked(c: Call, position: u32) {
     on(with(c, position), clock(20000));
 }
 

@@ -8,7 +8,7 @@ use Rattle.ground.proofs.Bools.{from-false}
 use Rattle.ground.proofs.Walks.{or-false, and-false}
 use Rattle.event.specs.declared.Event.{Event}
 use Rattle.event.specs.WellMade.{wellMade}
-use Rattle.event.specs.Identifiers.{ZeroIllMade, bearing, InvokeBearsAny}
+use Rattle.event.specs.Identifiers.{ZeroIllMade, InvokeBearsAny}
 
 -- by the kind
 zero-seven : (e : Event) → e .kind ≡ 7 → e .identifier ≡ 0 → wellMade e ≡ false

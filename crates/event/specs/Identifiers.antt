@@ -4,31 +4,14 @@ use mathlib.Core.Path.{_≡_}
 use mathlib.Core.Bool.{not}
 use lib.Dec.{T}
 use Rattle.event.specs.declared.Event.{Event}
-use Rattle.event.specs.Kinds.{answersRequest}
+use Rattle.event.specs.Kinds.{ReroutingInvoke, answersRequest}
+use Rattle.event.specs.Fields.{identifier-is}
 use Rattle.event.specs.WellMade.{wellMade}
 
 -- "a kind 7 or 8 event with identifier 0 is 3": it is not well made
 abbrev pub ZeroIllMade : Type 0
 ZeroIllMade = (e : Event) → T (answersRequest e) → e .identifier ≡ 0 → T (not (wellMade e))
 
--- the same event with another identifier
-abbrev pub bearing : ℕ → Event → Event
-bearing identifier e = record {
-  kind = e .kind;
-  call = e .call;
-  leg = e .leg;
-  message = e .message;
-  reason = e .reason;
-  option = e .option;
-  counter = e .counter;
-  flag = e .flag;
-  identifier = identifier;
-  first = e .first;
-  second = e .second;
-  third = e .third;
-  time = e .time;
-}
-
 -- "Received invokes may still bear 0": any identifier will do
 abbrev pub InvokeBearsAny : Type 0
-InvokeBearsAny = (e : Event) (identifier : ℕ) → e .kind ≡ 12 → wellMade (bearing identifier e) ≡ wellMade e
+InvokeBearsAny = (e : Event) (identifier : ℕ) → e .kind ≡ ReroutingInvoke → wellMade (identifier-is identifier e) ≡ wellMade e

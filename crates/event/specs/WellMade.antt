@@ -3,6 +3,7 @@ use Prim.Native.Nat.{ℕ}
 use mathlib.Core.Bool.{Bool, _&&_, _||_, not}
 use lib.Dec.{leb, eqb}
 use Rattle.event.specs.declared.Event.{Event}
+use Rattle.event.specs.Kinds.{noDli3, forbidden, FACILITY, RELEASE-COMPLETE, facility, releaseComplete, OpenOutgoing, OpenIncoming, OpenWithDli2, UserAlerted, UserAnswers, DivertCall, ReroutingResult, ReroutingError, DivertedLegFailed, Clock, OwnSideEnds, ReroutingInvoke, Dli1Received, OutgoingMessage, FarEndEnds}
 
 -- "1 open outgoing: first: party, not 0"; "2 open incoming: first: own number, not 0"
 abbrev pub openFields : Event → Bool
@@ -64,22 +65,22 @@ dli1Fields e =
 -- "FACILITY needs flag 1 or 2; RELEASE COMPLETE needs flag 0."
 abbrev pub messageFields : Event → Bool
 messageFields e =
-    leb 1 (e .leg) && leb (e .leg) 2 && leb 1 (e .message) && leb (e .message) 4 && eqb (e .reason) 0 && eqb (e .option) 0
-    && eqb (e .counter) 0 && leb (e .flag) 2 && eqb (e .identifier) 0 && eqb (e .first) 0 && eqb (e .third) 0
-    && (not (eqb (e .flag) 0) || eqb (e .second) 0)
-    && (not (eqb (e .message) 1) || not (eqb (e .flag) 0))
-    && (not (eqb (e .message) 4) || eqb (e .flag) 0)
+    leb 1 (e .leg) && leb (e .leg) 2 && leb FACILITY (e .message) && leb (e .message) RELEASE-COMPLETE && eqb (e .reason) 0 && eqb (e .option) 0
+    && eqb (e .counter) 0 && leb (e .flag) forbidden && eqb (e .identifier) 0 && eqb (e .first) 0 && eqb (e .third) 0
+    && (not (eqb (e .flag) noDli3) || eqb (e .second) 0)
+    && (not (facility e) || not (eqb (e .flag) noDli3))
+    && (not (releaseComplete e) || eqb (e .flag) noDli3)
 
 -- the kind is one of 1 to 15 and its fields are as its row says
 unfoldable pub wellMade : Event → Bool
 wellMade e =
-    ((eqb (e .kind) 1 || eqb (e .kind) 2) && openFields e)
-    || (eqb (e .kind) 3 && openDivertedFields e)
-    || ((eqb (e .kind) 4 || eqb (e .kind) 9 || eqb (e .kind) 11 || eqb (e .kind) 15) && callOnly e)
-    || (eqb (e .kind) 5 && answerFields e)
-    || (eqb (e .kind) 6 && divertFields e)
-    || ((eqb (e .kind) 7 || eqb (e .kind) 8) && outcomeFields e)
-    || (eqb (e .kind) 10 && clockFields e)
-    || (eqb (e .kind) 12 && reroutingFields e)
-    || (eqb (e .kind) 13 && dli1Fields e)
-    || (eqb (e .kind) 14 && messageFields e)
+    ((eqb (e .kind) OpenOutgoing || eqb (e .kind) OpenIncoming) && openFields e)
+    || (eqb (e .kind) OpenWithDli2 && openDivertedFields e)
+    || ((eqb (e .kind) UserAlerted || eqb (e .kind) DivertedLegFailed || eqb (e .kind) OwnSideEnds || eqb (e .kind) FarEndEnds) && callOnly e)
+    || (eqb (e .kind) UserAnswers && answerFields e)
+    || (eqb (e .kind) DivertCall && divertFields e)
+    || ((eqb (e .kind) ReroutingResult || eqb (e .kind) ReroutingError) && outcomeFields e)
+    || (eqb (e .kind) Clock && clockFields e)
+    || (eqb (e .kind) ReroutingInvoke && reroutingFields e)
+    || (eqb (e .kind) Dli1Received && dli1Fields e)
+    || (eqb (e .kind) OutgoingMessage && messageFields e)

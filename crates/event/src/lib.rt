@@ -209,10 +209,10 @@ fn message_fields(e: Event) -> bool
 
 // The kind is one of the table, and each field is as its row says. Only the row of the event's kind is looked at; neighbours
 // have an arm each, since `1 | 2` would be compiled as a range, tested after all others.
-pub fn well_made(e: Event) -> bool
+pub fn well_made(kind: u8, e: Event) -> bool
+    requires { ⌜ kind ≡ e .kind ⌝ }
     ensures { λ r. ⌜ r ≡ wellMade e ⌝ }
 {
-    let kind = e.kind;
     match kind {
         1 => open_fields(e),
         2 => open_fields(e),

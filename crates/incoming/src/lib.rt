@@ -3,16 +3,18 @@ ghost use mathlib.Core.Path.{_≡_};
 ghost use lib.Dec.{eqb};
 ghost use Prim.Native.Nat.{_<_};
 ghost use Rattle.ground.specs.Choice.{when_then_else_};
+ghost use Rattle.event.specs.Kinds.{OpenWithDli2};
+ghost use Rattle.call.specs.Record.{Active, CdfNone, Wait, CdfDone};
 ghost use Rattle.call.specs.Fields.{basic-is, cdf-is};
 ghost use Rattle.call.specs.Messages.{connectOn, connectWithDli3, one, sending, silent};
-ghost use Rattle.call.specs.Incoming.{openedIncoming, alerted, idle, ownIfAllowed, answered, originalSent, invokeOf, asking, diverted, grant, expired, actIncoming};
+ghost use Rattle.call.specs.Incoming.{openedIncoming, alerted, idle, ownIfAllowed, answered, originalSent, invokeOf, asking, diverted, grant, expired};
 use call::Call;
 use call::Effect;
 use call::Message;
 use event::Event;
 
 fn cdf_at_open(e: Event) -> u8
-    ensures { λ r. ⌜ r ≡ (when eqb (e .kind) 3 then 1 else 0) ⌝ }
+    ensures { λ r. ⌜ r ≡ (when eqb (e .kind) OpenWithDli2 then Wait else CdfNone) ⌝ }
 {
     if e.kind == 3 { 1 } else { 0 }
 }
@@ -34,7 +36,7 @@ pub fn opened_incoming(e: Event) -> Call
 }
 
 // "4: Proceeding becomes Received, ALERTING."
-fn alerted(c: Call) -> Effect
+pub fn alerted(c: Call) -> Effect
     ensures { λ r. ⌜ r ≡ alerted c ⌝ }
 {
     let alerting = message::bare(b'A', 1);
@@ -76,7 +78,7 @@ fn connect_with_dli3(leg: u8, flag: u8, number: u16) -> Message
 
 // "in Wait it carries DLI3 with the flag .., and CDF is done"
 fn answered_in_wait(c: Call, e: Event) -> Effect
-    ensures { λ r. ⌜ r ≡ sending (cdf-is 2 (basic-is 3 (idle c))) (one (connectWithDli3 1 (e .flag) (ownIfAllowed c e))) ⌝ }
+    ensures { λ r. ⌜ r ≡ sending (cdf-is CdfDone (basic-is Active (idle c))) (one (connectWithDli3 1 (e .flag) (ownIfAllowed c e))) ⌝ }
 {
     let number = own_if_allowed(c, e);
     let connect = connect_with_dli3(1, e.flag, number);
@@ -88,7 +90,7 @@ fn answered_in_wait(c: Call, e: Event) -> Effect
 }
 
 fn answered_plainly(c: Call) -> Effect
-    ensures { λ r. ⌜ r ≡ sending (basic-is 3 (idle c)) (one (connectOn 1)) ⌝ }
+    ensures { λ r. ⌜ r ≡ sending (basic-is Active (idle c)) (one (connectOn 1)) ⌝ }
 {
     let connect = message::bare(b'C', 1);
     let sent = message::one(connect);
@@ -98,7 +100,7 @@ fn answered_plainly(c: Call) -> Effect
 }
 
 // "5: Proceeding or Received becomes Active, CONNECT"
-fn answered(c: Call, e: Event) -> Effect
+pub fn answered(c: Call, e: Event) -> Effect
     ensures { λ r. ⌜ r ≡ answered c e ⌝ }
 {
     if c.cdf == 1 {
@@ -151,7 +153,7 @@ fn asking(c: Call, e: Event, identifier: u16) -> Call
 }
 
 // "6: .."
-fn diverted(c: Call, e: Event, identifier: u16) -> Effect
+pub fn diverted(c: Call, e: Event, identifier: u16) -> Effect
     requires { ⌜ c .counter < 255 ⌝ }
     ensures { λ r. ⌜ r ≡ diverted c e identifier ⌝ }
 {
@@ -180,13 +182,13 @@ fn grant(c: Call) -> Call
     d
 }
 
-fn granted(c: Call) -> Effect
+pub fn granted(c: Call) -> Effect
     ensures { λ r. ⌜ r ≡ silent (grant c) ⌝ }
 {
     message::silent(grant(c))
 }
 
-fn rejected(c: Call) -> Effect
+pub fn rejected(c: Call) -> Effect
     ensures { λ r. ⌜ r ≡ silent (idle c) ⌝ }
 {
     message::silent(idle(c))
@@ -206,22 +208,5 @@ pub fn expired(c: Call) -> Effect
         number: 0,
         identifier: identifier,
         counter: 0,
-    }
-}
-
-// "4" to "9" and "15"; a divert within the limit has a counter below 255
-pub fn act_incoming(c: Call, e: Event, identifier: u16) -> Effect
-    requires { ⌜ (e .kind ≡ 6 → c .counter < 255) ⌝ }
-    ensures { λ r. ⌜ r ≡ actIncoming c e identifier ⌝ }
-{
-    let kind = e.kind;
-    match kind {
-        4 => alerted(c),
-        5 => answered(c, e),
-        6 => diverted(c, e, identifier),
-        7 => granted(c),
-        8 => rejected(c),
-        9 => rejected(c),
-        _ => message::freed(),
     }
 }

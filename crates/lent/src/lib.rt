@@ -1,41 +1,211 @@
-// A host lends the table of calls as a slice of records: what of it is worked on, its records in an array by value, and the one record that an
-// event changes.
+// One event on the records that a host lends, decided by looking at them: no record is copied but the one where the event acts.
 ghost use mathlib.Core.Path.{_≡_};
-ghost use Prim.Native.Nat.{_+_, _≤_};
+ghost use Prim.Native.Nat.{_-_, _≤_, _<_};
 ghost use lib.ListN.{length};
-ghost use Rattle.lent.specs.Table.{frees, over, fitOf, settledAt};
+ghost use Rattle.call.specs.Incoming.{t1};
+ghost use Rattle.lent.specs.Lent.{askedOf, placeSeen, wantsColumn, apartWhere, fromColumn, asItStands, pickedOf, unchangedAs, settledAs, decisionBy, decisionOn};
 use call::Call;
+use call::Effect;
+use event::Event;
+use station::Answer;
+use station::Station;
+use survey::Asked;
+use survey::Noted;
+use turn::Seen;
+use turn::Turn;
 
-// How many records are worked on: all where there are up to 64, and none of a longer table.
-pub fn fit(len: usize) -> usize
-    ensures { λ r. ⌜ r ≡ fitOf len ⌝ }
-{
-    if len <= 64 { len } else { 0 }
+// What comes in beside the table.
+#[repr(C)]
+pub struct Input {
+    pub station: Station,
+    pub event: Event,
 }
 
-// The first n records of the table, and free ones after them.
-pub fn load(table: &[Call], n: usize) -> [Call; 64]
+// What goes out beside the table.
+#[repr(C)]
+pub struct Told {
+    pub answer: Answer,
+    pub station: Station,
+}
+
+// What goes out, and what becomes of the records: the one at `place` becomes `call`, or none changes where `count` is 0.
+#[repr(C)]
+pub struct Decision {
+    pub told: Told,
+    pub place: usize,
+    pub count: usize,
+    pub call: Call,
+}
+
+// What the open identifiers tell: that no two are the same, and the one that a request would take.
+pub struct Pick {
+    pub apart: bool,
+    pub identifier: u16,
+}
+
+// The time below which the start of a request that is due lies.
+fn due_before(time: u64) -> u64
+    ensures { λ r. ⌜ r ≡ time - (t1 - 1) ⌝ }
+{
+    if time < notes::T1 {
+        0
+    } else {
+        time - (notes::T1 - 1)
+    }
+}
+
+// What the survey is asked.
+fn asked(input: Input) -> Asked
+    ensures { λ r. ⌜ r ≡ askedOf input ⌝ }
+{
+    let last = input.station.last;
+    let by = due_before(input.event.time);
+    Asked { last: last, by: by }
+}
+
+// Where the event acts.
+fn place_seen(v: Noted, input: Input) -> usize
+    ensures { λ r. ⌜ r ≡ placeSeen v input ⌝ }
+{
+    let e = input.event;
+    turn::place_of(e, v.free, v.due)
+}
+
+// The column of identifiers is needed where two marks are the same, and for a divert.
+fn wants_column(v: Noted, input: Input) -> bool
+    ensures { λ r. ⌜ r ≡ wantsColumn v input ⌝ }
+{
+    let e = input.event;
+    v.clash | (e.kind == 6)
+}
+
+// Identifiers are compared only where two marks are the same.
+fn apart_where(clash: bool, held: &[u32; 64]) -> bool
+    requires { ⌜ length (now held) ≡ 64 ⌝ }
+    ensures { λ r. ⌜ r ≡ apartWhere clash (now (held .entry)) ⌝ }
+{
+    if clash { table::apart(held) } else { true }
+}
+
+// What the column of identifiers tells.
+fn from_column(input: Input, v: Noted, held: [u32; 64]) -> Pick
+    ensures { λ r. ⌜ r ≡ fromColumn input v held ⌝ }
+{
+    let e = input.event;
+    let next = input.station.next;
+    let clash = v.clash;
+    let apart = apart_where(clash, &held);
+    let identifier = notes::identifier_in(e, &held, next);
+    Pick {
+        apart: apart,
+        identifier: identifier,
+    }
+}
+
+// All marks differ, and no identifier is asked for.
+fn as_it_stands(input: Input) -> Pick
+    ensures { λ r. ⌜ r ≡ asItStands input ⌝ }
+{
+    let next = input.station.next;
+    Pick {
+        apart: true,
+        identifier: next,
+    }
+}
+
+// The column is made only where it is needed: a second walk over the first n records.
+fn picked(table: &[Call], n: usize, v: Noted, input: Input) -> Pick
     requires { ⌜ (n ≤ length (now table)) × (n ≤ 64) ⌝ }
-    ensures { λ r. ⌜ r ≡ over n (now (table .entry)) frees ⌝ }
+    ensures { λ r. ⌜ r ≡ pickedOf input v n (now (table .entry)) ⌝ }
 {
-    let free = call::free_call();
-    let mut acc = [free; 64];
-    let mut i = 0;
-    while i < n {
-        acc[i] = table[i];
-        i += 1;
+    if wants_column(v, input) {
+        let held = survey::column(table, n);
+        return from_column(input, v, held);
     }
-    acc
+    as_it_stands(input)
 }
 
-// The records of the table from `place` on, none or one, become c.
-pub fn settle(table: &mut [Call], place: usize, count: usize, c: Call)
-    requires { ⌜ place + count ≤ length (now table) ⌝ }
-    ensures { λ _. ⌜ now (table .exit) ≡ settledAt place count c (now (table .entry)) ⌝ }
+// No record changes, and the answer has no call.
+fn unchanged(code: u8, s: Station) -> Decision
+    ensures { λ r. ⌜ r ≡ unchangedAs code s ⌝ }
 {
-    let mut j = 0;
-    while j < count {
-        table[place + j] = c;
-        j += 1;
+    let answer = station::empty_answer(code);
+    let told = Told {
+        answer: answer,
+        station: s,
+    };
+    let free = call::free_call();
+    Decision {
+        told: told,
+        place: 0,
+        count: 0,
+        call: free,
     }
+}
+
+// The record at i changes.
+fn settled(i: usize, x: Effect, s: Station) -> Decision
+    requires { ⌜ i < 64 ⌝ }
+    ensures { λ r. ⌜ r ≡ settledAs i x s ⌝ }
+{
+    let answer = turn::answer_of(i as u8, x);
+    let told = Told {
+        answer: answer,
+        station: s,
+    };
+    let c = x.call;
+    Decision {
+        told: told,
+        place: i,
+        count: 1,
+        call: c,
+    }
+}
+
+// One event, on what was noted and picked of the first n records and on the record where it acts.
+fn decided_on(input: Input, v: Noted, n: usize, p: Pick, c: Call) -> Decision
+    requires { ⌜ n ≤ 64 ⌝ }
+    ensures { λ r. ⌜ r ≡ decisionBy input v n p c ⌝ }
+{
+    let s = input.station;
+    let e = input.event;
+    let well = v.sound;
+    let apart = p.apart;
+    let identifier = p.identifier;
+    let fit = sound::in_bounds(n, s.limit, s.next);
+    if !(fit & well & apart) {
+        return unchanged(1, s);
+    }
+    let place = place_seen(v, input);
+    let seen = Seen {
+        len: n,
+        place: place,
+        identifier: identifier,
+        call: c,
+    };
+    let t = turn::turned(s, e, seen);
+    match t {
+        Turn::Refused(code) => {
+            return unchanged(code, s);
+        }
+        Turn::NoneDue => {
+            return unchanged(0, turn::station_on(s, e, identifier));
+        }
+        Turn::Done(x) => {
+            return settled(place, x, turn::station_on(s, e, identifier));
+        }
+    }
+}
+
+// One event on any slice.
+pub fn looked(table: &[Call], input: Input) -> Decision
+    ensures { λ r. ⌜ r ≡ decisionOn (input .station) (now (table .entry)) (input .event) ⌝ }
+{
+    let n = slice::fit(table.len());
+    let q = asked(input);
+    let v = survey::survey(table, n, q);
+    let place = place_seen(v, input);
+    let c = slice::record_at(table, n, place);
+    let p = picked(table, n, v, input);
+    decided_on(input, v, n, p, c)
 }

@@ -9,7 +9,8 @@ use Rattle.ground.specs.Choice.{when_then_else_}
 use Rattle.ground.proofs.Bools.{and-l, and-r, and-i, eq→eqb, by-cases}
 use Rattle.notice.specs.declared.Dli1.{Dli1}
 use Rattle.notice.specs.declared.History.{History}
-use Rattle.notice.specs.Notice.{noNotice, noNumber, seen, strictestWith, givesNotice, noticeOf, reopened, afterDli1, allowed, forbidden, mayShow, numberShown, afterDli3}
+use Rattle.event.specs.Kinds.{allowed, forbidden}
+use Rattle.notice.specs.Notice.{noNotice, noNumber, seen, strictestWith, givesNotice, noticeOf, reopened, afterDli1, mayShow, numberShown, afterDli3}
 use Rattle.notice.specs.Stricter.{ShownOnlyWhere, hidden, agreed, StricterDli1, lowered, StricterFlag, kept, forbade, soFar, highest, restricted, StricterHistory, tightened}
 
 -- what two decisions on one value show

@@ -3,6 +3,7 @@ use Prim.Native.Nat.{ℕ, min}
 use mathlib.Core.Bool.{Bool, _&&_, not}
 use lib.Dec.{eqb}
 use Rattle.ground.specs.Choice.{when_then_else_}
+use Rattle.event.specs.Kinds.{cfnr, noNotification, withNumber, allowed, forbidden}
 use Rattle.notice.specs.declared.Dli1.{Dli1}
 use Rattle.notice.specs.declared.History.{History}
 use Rattle.notice.specs.declared.Noticed.{Noticed}
@@ -16,16 +17,16 @@ noNotice = 255
 abbrev pub noNumber : ℕ
 noNumber = 0
 
--- flags of kind 14: "1 DLI3 allowed, 2 DLI3 forbidden"
-abbrev pub allowed : ℕ
-allowed = 1
+-- a mark of a record that is not set, or set: "DLI1 seen", "a forbidden DLI3 seen", "number shown", "a granted mark"
+abbrev pub unmarked : ℕ
+unmarked = 0
 
-abbrev pub forbidden : ℕ
-forbidden = 2
+abbrev pub marked : ℕ
+marked = 1
 
 -- "DLI1 seen"
 abbrev pub seen : History → Bool
-seen h = eqb (h .seen) 1
+seen h = eqb (h .seen) marked
 
 -- "It is all 0 before the first DLI1"
 abbrev pub noHistory : History
@@ -39,8 +40,8 @@ strictestWith h option = when seen h then min (h .strictest) option else option
 -- and no option so far is 0."
 abbrev pub givesNotice : History → Dli1 → Bool
 givesNotice h d =
-    when seen h then eqb (d .reason) 3 && not (eqb (strictestWith h (d .option)) 0) else
-    not (eqb (d .option) 0)
+    when seen h then eqb (d .reason) cfnr && not (eqb (strictestWith h (d .option)) noNotification) else
+    not (eqb (d .option) noNotification)
 
 -- "The notice is the reason."
 abbrev pub noticeOf : History → Dli1 → ℕ
@@ -54,13 +55,13 @@ reopened h reason = record {
   seen = h .seen;
   strictest = h .strictest;
   forbidden = h .forbidden;
-  shown = when eqb reason 3 then 0 else h .shown;
+  shown = when eqb reason cfnr then unmarked else h .shown;
   nominated = h .nominated;
 }
 
 abbrev pub afterDli1 : History → Dli1 → History
 afterDli1 h d = record {
-  seen = 1;
+  seen = marked;
   strictest = strictestWith (reopened h (d .reason)) (d .option);
   forbidden = reopened h (d .reason) .forbidden;
   shown = reopened h (d .reason) .shown;
@@ -73,20 +74,20 @@ takeDli1 h d = record { notice = noticeOf h d; history = afterDli1 h d }
 -- of a DLI3 in Divert (its callers test that): it "shows its number .. exactly if every option so far is 2, every DLI3 so far is
 -- allowed and no number has been shown", since the last cfnr DLI1 of the call if it had one
 abbrev pub mayShow : History → ℕ → Bool
-mayShow h flag = eqb flag allowed && eqb (h .strictest) 2 && eqb (h .forbidden) 0 && eqb (h .shown) 0
+mayShow h flag = eqb flag allowed && eqb (h .strictest) withNumber && eqb (h .forbidden) unmarked && eqb (h .shown) unmarked
 
 -- "its number, or the last nominated one if absent"
 abbrev pub numberShown : History → ℕ → ℕ → ℕ
 numberShown h flag number =
-    when mayShow h flag then (when eqb number 0 then h .nominated else number) else
+    when mayShow h flag then (when eqb number noNumber then h .nominated else number) else
     noNumber
 
 abbrev pub afterDli3 : History → ℕ → History
 afterDli3 h flag = record {
   seen = h .seen;
   strictest = h .strictest;
-  forbidden = when eqb flag forbidden then 1 else h .forbidden;
-  shown = when mayShow h flag then 1 else h .shown;
+  forbidden = when eqb flag forbidden then marked else h .forbidden;
+  shown = when mayShow h flag then marked else h .shown;
   nominated = h .nominated;
 }
 

@@ -3,9 +3,10 @@
 use Prim.Native.Nat.{ℕ, _≤_}
 use mathlib.Core.Path.{_≡_}
 use Rattle.ground.specs.Choice.{when_then_else_}
+use Rattle.event.specs.Kinds.{withNumber, allowed, forbidden}
 use Rattle.notice.specs.declared.Dli1.{Dli1}
 use Rattle.notice.specs.declared.History.{History}
-use Rattle.notice.specs.Notice.{seen, allowed, forbidden}
+use Rattle.notice.specs.Notice.{unmarked, seen}
 
 -- "The stricter run shows a notice or a number only where the other does, the same one."
 pub data ShownOnlyWhere (none : ℕ) : ℕ → ℕ → Type 0 where
@@ -14,7 +15,7 @@ pub data ShownOnlyWhere (none : ℕ) : ℕ → ℕ → Type 0 where
 
 -- "options .. become stricter": "Options: 0 .. 1 .. 2 ..; a smaller one is stricter"
 pub data StricterDli1 : Dli1 → Dli1 → Type 0 where
-  lowered : (d : Dli1) (option : ℕ) → option ≤ d .option → d .option ≤ 2
+  lowered : (d : Dli1) (option : ℕ) → option ≤ d .option → d .option ≤ withNumber
       → StricterDli1 d (record { reason = d .reason; option = option; number = d .number })
 
 -- "presentation marks .. turn from allowed to forbidden"
@@ -24,11 +25,11 @@ pub data StricterFlag : ℕ → ℕ → Type 0 where
 
 -- the strictest option so far, where it is one; 2, "with number", before the first DLI1
 abbrev pub soFar : History → ℕ → ℕ
-soFar h strictest = when seen h then strictest else 2
+soFar h strictest = when seen h then strictest else withNumber
 
 -- "option 0 to 2"; "It is all 0 before the first DLI1"
 abbrev pub highest : History → ℕ
-highest h = when seen h then 2 else 0
+highest h = when seen h then withNumber else 0
 
 -- a history with another strictest option and other marks
 abbrev pub restricted : History → ℕ → ℕ → ℕ → History
@@ -45,6 +46,6 @@ restricted h strictest forbidden shown = record {
 -- below 2, or its forbidden mark is set.
 pub data StricterHistory : History → History → Type 0 where
   tightened : (h : History) (strictest forbidden shown : ℕ) → strictest ≤ h .strictest → h .strictest ≤ highest h
-      → (forbidden ≡ 0 → h .forbidden ≡ 0) → (h .shown ≡ 0 → shown ≡ 0)
-      → (soFar h strictest ≡ 2 → forbidden ≡ 0 → shown ≡ 0 → h .shown ≡ 0)
+      → (forbidden ≡ unmarked → h .forbidden ≡ unmarked) → (h .shown ≡ unmarked → shown ≡ unmarked)
+      → (soFar h strictest ≡ withNumber → forbidden ≡ unmarked → shown ≡ unmarked → h .shown ≡ unmarked)
       → StricterHistory h (restricted h strictest forbidden shown)

@@ -7,9 +7,10 @@ use mathlib.Core.List.{List, [], _∷_, reverse}
 use lib.Dec.{T, eqb, leb}
 use Rattle.ground.specs.Choice.{when_then_else_}
 use Rattle.ground.specs.Lists.{all, any}
+use Rattle.event.specs.Kinds.{cfnr, withNumber, allowed, forbidden}
 use Rattle.notice.specs.declared.Dli1.{Dli1}
 use Rattle.notice.specs.declared.History.{History}
-use Rattle.notice.specs.Notice.{noNotice, noNumber, allowed, forbidden, noHistory, givesNotice, noticeOf, afterDli1, numberShown, afterDli3}
+use Rattle.notice.specs.Notice.{noNotice, noNumber, unmarked, marked, noHistory, givesNotice, noticeOf, afterDli1, numberShown, afterDli3}
 
 -- "1 DLI3 allowed, 2 DLI3 forbidden"
 pub data Mark : Type 0 where
@@ -58,7 +59,7 @@ counted (dli3 m n ∷ l) = diverted l && counted l
 
 -- "Options: 0 no notification, 1 without number, 2 with number"
 abbrev pub optionsOk : List Told → Bool
-optionsOk l = all (λ o. leb o 2) (optionsOf l)
+optionsOk l = all (λ o. leb o withNumber) (optionsOf l)
 
 -- the last nominated number
 unfoldable pub lastNominated : List Told → ℕ
@@ -69,14 +70,14 @@ lastNominated (dli3 m n ∷ l) = lastNominated l
 -- "every option so far is 2, every DLI3 so far is allowed and no number has been shown": this DLI3's mark counts too; `before`
 -- is that one was shown since the last cfnr DLI1
 abbrev pub allClear : List Told → Mark → Bool → Bool
-allClear l m before = all (eqb 2) (optionsOf l) && all isAllowed (m ∷ marksOf l) && not before
+allClear l m before = all (eqb withNumber) (optionsOf l) && all isAllowed (m ∷ marksOf l) && not before
 
 -- Some DLI3 since the last cfnr DLI1 of the list showed a number. H.450.3, 9.1: "no previous notification of a diverted-to
 -- number has been given to the calling user unless, since then, a divertingLegInformation1 invoke APDU with value cfnr in
 -- element diversionReason has been received."
 unfoldable pub shownSince : List Told → Bool
 shownSince [] = false
-shownSince (dli1 d ∷ l) = when eqb (d .reason) 3 then false else shownSince l
+shownSince (dli1 d ∷ l) = when eqb (d .reason) cfnr then false else shownSince l
 shownSince (dli3 m n ∷ l) = shownSince l || allClear l m (shownSince l)
 
 -- a DLI3 with this mark, after the list, shows a number
@@ -85,7 +86,7 @@ shows l m = allClear l m (shownSince l)
 
 -- "its number, or the last nominated one if absent"
 abbrev pub numberFor : List Told → ℕ → ℕ
-numberFor l number = when eqb number 0 then lastNominated l else number
+numberFor l number = when eqb number noNumber then lastNominated l else number
 
 abbrev pub notZero : ℕ → Bool
 notZero n = not (eqb n 0)
@@ -94,7 +95,7 @@ notZero n = not (eqb n 0)
 -- and no option so far is 0.": this DLI1's option counts too
 abbrev pub notices : List Told → Dli1 → Bool
 notices l d =
-    when diverted l then eqb (d .reason) 3 && all notZero (d .option ∷ optionsOf l) else
+    when diverted l then eqb (d .reason) cfnr && all notZero (d .option ∷ optionsOf l) else
     notZero (d .option)
 
 -- the history that the list leaves
@@ -118,10 +119,10 @@ pub record Least (n : ℕ) (numbers : List ℕ) : Type 0 where
 pub record Summary (l : List Told) (h : History) : Type 0 where
   -- "It is all 0 before the first DLI1"
   pub unused : T (not (diverted l)) → h ≡ noHistory
-  pub seenIs : h .seen ≡ when diverted l then 1 else 0
+  pub seenIs : h .seen ≡ when diverted l then marked else unmarked
   pub strictestIs : T (diverted l) → Least (h .strictest) (optionsOf l)
-  pub forbiddenIs : h .forbidden ≡ when any isForbidden (marksOf l) then 1 else 0
-  pub shownIs : h .shown ≡ when shownSince l then 1 else 0
+  pub forbiddenIs : h .forbidden ≡ when any isForbidden (marksOf l) then marked else unmarked
+  pub shownIs : h .shown ≡ when shownSince l then marked else unmarked
   pub nominatedIs : h .nominated ≡ lastNominated l
 
 -- A DLI3 shows its number, or the last nominated one if absent, exactly if the list and its own mark say so. The list with
@@ -152,7 +153,7 @@ NoticesByList =
 abbrev pub NoticesExactly : Type 0
 NoticesExactly =
     (l : List Told) (d : Dli1)
-    → T (leb (d .reason) 3)
+    → T (leb (d .reason) cfnr)
     → not (eqb (noticeOf (historyOf l) d) noNotice) ≡ notices l d
 
 abbrev pub Summarises : Type 0

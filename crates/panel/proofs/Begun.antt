@@ -8,7 +8,7 @@ use Rattle.call.specs.Record.{freeCall}
 use Rattle.station.specs.Station.{freshStation}
 use Rattle.station.specs.Table.{sound}
 use Rattle.station.proofs.Kept.{fresh-sound}
-use Rattle.engine.specs.Board.{soundBoard}
+use Rattle.board.specs.Board.{soundBoard}
 use Rattle.panel.specs.Play.{startBoard}
 
 pub start-sound : soundBoard startBoard ≡ true

@@ -13,32 +13,32 @@ use Rattle.event.specs.declared.Event.{Event}
 use Rattle.station.specs.Table.{sound}
 use Rattle.station.specs.Step.{step}
 use Rattle.station.proofs.Places.{length-stays}
-use Rattle.engine.specs.declared.Board.{Board}
-use Rattle.engine.specs.Board.{lent, putBack, soundBoard, stepBoard}
+use Rattle.board.specs.declared.Board.{Board}
+use Rattle.board.specs.Board.{tableOf, putBack, soundBoard, stepBoard}
 use Rattle.printout.specs.Line.{line, printed}
 use Rattle.printout.specs.Panel.{linesText}
 
 module _ (b : Board) (h : soundBoard b ≡ true) where
   not-over : ltb 64 (b .len) ≡ false
-  not-over = not-true (ltb 64 (b .len)) (both (not (ltb 64 (b .len))) (sound (b .station) (lent b)) h .0)
+  not-over = not-true (ltb 64 (b .len)) (both (not (ltb 64 (b .len))) (sound (b .station) (tableOf b)) h .0)
 
-  on-lent : (e : Event) → stepBoard b e ≡ putBack b (step (b .station) (lent b) e)
+  on-lent : (e : Event) → stepBoard b e ≡ putBack b (step (b .station) (tableOf b) e)
   on-lent e = rw not-over
 
   module _ (e : Event) (long : length (b .calls) ≡ 64) where
-    calls-long : length (step (b .station) (lent b) e .calls) ≡ b .len
+    calls-long : length (step (b .station) (tableOf b) e .calls) ≡ b .len
     calls-long =
         let m = ltb-false 64 (b .len) not-over in
-        length-stays (b .station) (lent b) e ∙ omega (arith, length-take (b .len) (b .calls))
+        length-stays (b .station) (tableOf b) e ∙ omega (arith, length-take (b .len) (b .calls))
 
     pub stays-long : length (stepBoard b e .board .calls) ≡ 64
     stays-long =
         let m = ltb-false 64 (b .len) not-over in
-        rw (on-lent e) (omega (arith, length-append (step (b .station) (lent b) e .calls) (drop (b .len) (b .calls)), calls-long, length-drop (b .len) (b .calls)))
+        rw (on-lent e) (omega (arith, length-append (step (b .station) (tableOf b) e .calls) (drop (b .len) (b .calls)), calls-long, length-drop (b .len) (b .calls)))
 
     -- the line of the first event, then those of the others on the board that it leaves
     pub lines-on : (position : ℕ) (rest : List Event)
-        → linesText position (b .station) (lent b) (e ∷ rest)
-        ≡ line position (stepBoard b e .answer) ++ linesText (suc position) (stepBoard b e .board .station) (lent (stepBoard b e .board)) rest
+        → linesText position (b .station) (tableOf b) (e ∷ rest)
+        ≡ line position (stepBoard b e .answer) ++ linesText (suc position) (stepBoard b e .board .station) (tableOf (stepBoard b e .board)) rest
     unfolding printed flatten
-    lines-on position rest = rw (on-lent e, take-at (step (b .station) (lent b) e .calls) (drop (b .len) (b .calls)) (b .len) calls-long)
+    lines-on position rest = rw (on-lent e, take-at (step (b .station) (tableOf b) e .calls) (drop (b .len) (b .calls)) (b .len) calls-long)

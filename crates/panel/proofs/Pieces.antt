@@ -8,9 +8,9 @@ use native.Mathlib.Omega.{arith}
 use lib.ListN.{length, take, drop, length-drop}
 use Rattle.event.specs.declared.Event.{Event}
 use Rattle.event.specs.Record.{eventsFrom}
-use Rattle.engine.specs.declared.Board.{Board}
-use Rattle.engine.specs.Board.{lent, soundBoard, stepBoard}
-use Rattle.engine.proofs.Kept.{board-kept}
+use Rattle.board.specs.declared.Board.{Board}
+use Rattle.board.specs.Board.{tableOf, soundBoard, stepBoard}
+use Rattle.board.proofs.Kept.{board-kept}
 use Rattle.printout.specs.Line.{line, printed}
 use Rattle.printout.specs.Panel.{linesText, wholeEvents, cutText, panelText}
 use Rattle.panel.specs.Play.{boardAfter}
@@ -32,19 +32,19 @@ after-long b (e ∷ es) h l = after-long (stepBoard b e .board) es (board-kept b
 
 -- the lines of two lists, one behind the other
 lines-append : (position : ℕ) (b : Board) (es fs : List Event) → soundBoard b ≡ true → length (b .calls) ≡ 64
-    → linesText position (b .station) (lent b) (es ++ fs)
-    ≡ linesText position (b .station) (lent b) es ++ linesText (position + length es) (boardAfter b es .station) (lent (boardAfter b es)) fs
+    → linesText position (b .station) (tableOf b) (es ++ fs)
+    ≡ linesText position (b .station) (tableOf b) es ++ linesText (position + length es) (boardAfter b es .station) (tableOf (boardAfter b es)) fs
 unfolding boardAfter printed flatten
 lines-append position b [] fs h l = rw add-zero
 lines-append position b (e ∷ es) fs h l =
     let a = line position (stepBoard b e .answer) in
     let next = stepBoard b e .board in
-    let more = linesText (suc position + length es) (boardAfter next es .station) (lent (boardAfter next es)) fs in
+    let more = linesText (suc position + length es) (boardAfter next es .station) (tableOf (boardAfter next es)) fs in
     let k : position + suc (length es) ≡ suc position + length es = omega arith in
     rw k
     (lines-on b h e l position (es ++ fs)
     ∙ ap (λ t. a ++ t) (lines-append (suc position) next es fs (board-kept b e h) (stays-long b h e l))
-    ∙ sym (append-assoc a (linesText (suc position) (next .station) (lent next) es) more)
+    ∙ sym (append-assoc a (linesText (suc position) (next .station) (tableOf next) es) more)
     ∙ ap (λ t. t ++ more) (sym (lines-on b h e l position es)))
 
 -- the whole records of an input: those that were played, then those of what is left
@@ -56,7 +56,7 @@ whole-split left seen n s m =
     rw (events-taken left seen 0 n (omega arith), events-behind left (n * 24) 0 k, c, add-zero (n * 24)) (events-split left 0 n k ∙ rw (zero-add (n * 24)))
 
 turns-print : {b : Board} {position : ℕ} {left text : List ℕ} → InTurns b position left text → soundBoard b ≡ true → length (b .calls) ≡ 64
-    → text ≡ linesText position (b .station) (lent b) (wholeEvents left) ++ cutText (length left % 24)
+    → text ≡ linesText position (b .station) (tableOf b) (wholeEvents left) ++ cutText (length left % 24)
 unfolding eventsFrom printed flatten
 turns-print {left = left} (over s) h l =
     let z : length left / 24 ≡ 0 = omega arith in
@@ -68,7 +68,7 @@ turns-print {b} {position} {left} (onward {text = text} seen n s m w) h l =
     let c : length rest % 24 ≡ length left % 24 = omega (arith, length-drop (n * 24) left) in
     let t = rw c at (turns-print w (after-sound b es h) (after-long b es h l)) in
     let q = rw (events-long (take seen left) 0 n) at (lines-append position b es (wholeEvents rest) h l) in
-    rw (whole-split left seen n s m, q, t) (sym (append-assoc (linesText position (b .station) (lent b) es) _ _))
+    rw (whole-split left seen n s m, q, t) (sym (append-assoc (linesText position (b .station) (tableOf b) es) _ _))
 
 pub turns-print-panel : TurnsPrint
 unfolding panelText

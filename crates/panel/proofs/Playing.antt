@@ -8,10 +8,9 @@ use native.Mathlib.Omega.{arith}
 use lib.ListN.{length}
 use Rattle.event.specs.declared.Event.{Event}
 use Rattle.event.specs.Record.{eventAt, eventsFrom}
-use Rattle.engine.specs.declared.Board.{Board}
-use Rattle.engine.specs.declared.Stepped.{Stepped}
-use Rattle.engine.specs.Board.{lent, soundBoard, stepBoard}
-use Rattle.engine.proofs.Kept.{board-kept}
+use Rattle.board.specs.declared.Board.{Board}
+use Rattle.board.specs.Board.{Stepped, tableOf, soundBoard, stepBoard}
+use Rattle.board.proofs.Kept.{board-kept}
 use Rattle.printout.specs.Line.{line, printed}
 use Rattle.printout.specs.Panel.{linesText}
 use Rattle.printout.specs.Written.{Written}
@@ -29,8 +28,8 @@ pub record Playing (b : Board) (position : ℕ) (bytes old : List ℕ) (n : ℕ)
   pub same : length out ≡ length old
   pub done : List ℕ
   pub text : Written done 0 old out at
-  pub lines : done ++ linesText (position + i) (board .station) (lent board) (eventsFrom bytes (i * 24) (n - i))
-      ≡ linesText position (b .station) (lent b) (eventsFrom bytes 0 n)
+  pub lines : done ++ linesText (position + i) (board .station) (tableOf board) (eventsFrom bytes (i * 24) (n - i))
+      ≡ linesText position (b .station) (tableOf b) (eventsFrom bytes 0 n)
   pub left : boardAfter board (eventsFrom bytes (i * 24) (n - i)) ≡ boardAfter b (eventsFrom bytes 0 n)
 
 module _ (b : Board) (position : ℕ) (bytes old : List ℕ) (n : ℕ) where
@@ -80,7 +79,7 @@ module _ (b : Board) (position : ℕ) (bytes old : List ℕ) (n : ℕ) where
     unfolding eventsFrom
     none-left = let e : n - i ≡ 0 = omega arith in rw e
 
-    pub played-text : Written (linesText position (b .station) (lent b) (eventsFrom bytes 0 n)) 0 old out at
+    pub played-text : Written (linesText position (b .station) (tableOf b) (eventsFrom bytes 0 n)) 0 old out at
     unfolding printed flatten
     played-text = rw (← w .lines, none-left, append-nil) (w .text)
 

@@ -4,8 +4,8 @@ use mathlib.Core.Path.{_≡_}
 use mathlib.Core.List.{List, _++_}
 use lib.ListN.{length, take, drop}
 use Rattle.event.specs.Record.{eventsFrom}
-use Rattle.engine.specs.declared.Board.{Board}
-use Rattle.engine.specs.Board.{lent}
+use Rattle.board.specs.declared.Board.{Board}
+use Rattle.board.specs.Board.{tableOf}
 use Rattle.printout.specs.Panel.{linesText, cutText, panelText}
 use Rattle.panel.specs.Play.{startBoard, boardAfter}
 
@@ -15,7 +15,7 @@ pub data InTurns : Board → ℕ → List ℕ → List ℕ → Type 0 where
   over : {b : Board} {position : ℕ} {left : List ℕ} → length left < 24 → InTurns b position left (cutText (length left))
   onward : {b : Board} {position : ℕ} {left text : List ℕ} (seen n : ℕ) → seen ≤ length left → n * 24 ≤ seen
       → InTurns (boardAfter b (eventsFrom (take seen left) 0 n)) (position + n) (drop (n * 24) left) text
-      → InTurns b position left (linesText position (b .station) (lent b) (eventsFrom (take seen left) 0 n) ++ text)
+      → InTurns b position left (linesText position (b .station) (tableOf b) (eventsFrom (take seen left) 0 n) ++ text)
 
 abbrev pub TurnsPrint : Type 0
 TurnsPrint = (input text : List ℕ) → InTurns startBoard 0 input text → text ≡ panelText input

@@ -8,8 +8,8 @@ use Rattle.event.specs.declared.Event.{Event}
 use Rattle.event.specs.Record.{eventsFrom}
 use Rattle.call.specs.Record.{freeCall}
 use Rattle.station.specs.Station.{freshStation}
-use Rattle.engine.specs.declared.Board.{Board}
-use Rattle.engine.specs.Board.{lent, soundBoard, stepBoard}
+use Rattle.board.specs.declared.Board.{Board}
+use Rattle.board.specs.Board.{tableOf, soundBoard, stepBoard}
 use Rattle.printout.specs.Panel.{linesText}
 use Rattle.printout.specs.Written.{Written}
 use Rattle.panel.specs.declared.Played.{Played}
@@ -37,7 +37,7 @@ playedEvents bytes out = eventsFrom bytes 0 (playedCount bytes out)
 -- the lines of those records stand at the buffer's start, all else in it is as it was, and the result says where the next piece
 -- begins: its board, its position, the bytes that were used and those that were written
 pub record Plays (b : Board) (position : ℕ) (bytes old new : List ℕ) (r : Played) : Type 0 where
-  pub text : Written (linesText position (b .station) (lent b) (playedEvents bytes old)) 0 old new (r .written)
+  pub text : Written (linesText position (b .station) (tableOf b) (playedEvents bytes old)) 0 old new (r .written)
   pub used : r .used ≡ playedCount bytes old * 24
   pub next : r .position ≡ position + playedCount bytes old
   pub board : r .board ≡ boardAfter b (playedEvents bytes old)

@@ -4,10 +4,11 @@ ghost use mathlib.Core.Bool.{true};
 ghost use Prim.Native.Nat.{_+_, _/_, _^_, _≤_, _<_, min};
 ghost use lib.ListN.{length, drop};
 ghost use lib.Seq.{paste};
-ghost use Rattle.engine.specs.Board.{soundBoard};
+ghost use Rattle.board.specs.Board.{soundBoard};
 ghost use Rattle.panel.specs.Play.{startBoard, Plays};
-use engine::Board;
-use station::Station;
+use board::Board;
+use turn::Seen;
+use turn::Turn;
 
 #[repr(C)]
 pub struct Played {
@@ -38,19 +39,17 @@ fn least(a: usize, b: usize) -> usize
     if a < b { a } else { b }
 }
 
-// Plays the records of a piece that are whole, as far as there is room for their lines. The table stays in a local array, and
-// no call takes it; each arm ends the turn, so that it has its own facts.
+// Plays the records of a piece that are whole, as far as there is room for their lines: for each find the place, read, decide,
+// store, write the line. The table stays in a local array.
 pub fn play(b: Board, position: u64, bytes: &[u8], out: &mut [u8]) -> Played
     requires { ⌜ (soundBoard b ≡ true) × (position + length (now bytes) / 24 < 2 ^ 64) ⌝ }
     ensures { λ r. ⌜ Plays b position (now (bytes .entry)) (now (out .entry)) (now (out .exit)) r ⌝ }
 {
     let n = least(bytes.len() / 24, out.len() / 96);
     let mut calls = b.calls;
-    let mut last = b.station.last;
-    let mut next = b.station.next;
-    let limit = b.station.limit;
+    let mut s = b.station;
     let len = b.len;
-    let kept = desk::summed(calls, len);
+    let kept = notes::summed(calls, len);
     let mut free = kept.free;
     let mut soon = kept.soon;
     let mut dues = kept.dues;
@@ -59,114 +58,47 @@ pub fn play(b: Board, position: u64, bytes: &[u8], out: &mut [u8]) -> Played
     let mut k: usize = 0;
     while k < n {
         let e = event::event_at(bytes, k * 24);
-        let time = e.time;
-        let kind = e.kind;
-        if time < last {
-            let answer = station::empty_answer(2);
-            at = printout::write_line(out, at, position + k as u64, answer);
-            k += 1;
-            continue;
-        }
-        if event::well_made(e) {
-            if kind < 4 {
-                let i = desk::lowest(free);
-                if i < len {
-                    let c = calls[i];
-                    let x = rules::opened(e);
-                    let d = x.call;
-                    calls[i] = d;
-                    free = desk::flip(free, i, c.direction, d.direction);
-                    let due = desk::quiet_until(d);
-                    dues[i] = due;
-                    soon = desk::sooner(soon, due);
-                    let id = desk::held_by(d);
-                    held[i] = id;
-                    last = time;
-                    let answer = decide::answered(i as u8, x);
-                    at = printout::write_line(out, at, position + k as u64, answer);
-                    k += 1;
-                    continue;
-                }
-                let answer = station::empty_answer(8);
-                at = printout::write_line(out, at, position + k as u64, answer);
-                k += 1;
-                continue;
-            }
-            if kind == 10 {
-                soon = desk::refresh(soon, &dues, time);
-                let i = desk::due_at(&dues, soon, time);
-                if i < len {
-                    let c = calls[i];
-                    let x = incoming::expired(c);
-                    let d = x.call;
-                    calls[i] = d;
-                    free = desk::flip(free, i, c.direction, d.direction);
-                    let due = desk::quiet_until(d);
-                    dues[i] = due;
-                    soon = desk::sooner(soon, due);
-                    let id = desk::held_by(d);
-                    held[i] = id;
-                    last = time;
-                    let answer = decide::answered(i as u8, x);
-                    at = printout::write_line(out, at, position + k as u64, answer);
-                    k += 1;
-                    continue;
-                }
-                last = time;
-                let answer = station::empty_answer(0);
-                at = printout::write_line(out, at, position + k as u64, answer);
-                k += 1;
-                continue;
-            }
-            let i = e.call as usize;
-            if i < len {
-                let c = calls[i];
-                let s = Station {
-                    last: last,
-                    next: next,
-                    limit: limit,
-                };
-                let code = decide::named_refusal(s, c, e);
-                if code == 0 {
-                    let identifier = engine::identifier_in(e, &held, next);
-                    let x = rules::act(c, e, identifier);
-                    let d = x.call;
-                    calls[i] = d;
-                    free = desk::flip(free, i, c.direction, d.direction);
-                    let due = desk::quiet_until(d);
-                    dues[i] = due;
-                    soon = desk::sooner(soon, due);
-                    let id = desk::held_by(d);
-                    held[i] = id;
-                    next = decide::next_with(e, identifier, next);
-                    last = time;
-                    let answer = decide::answered(e.call, x);
-                    at = printout::write_line(out, at, position + k as u64, answer);
-                    k += 1;
-                    continue;
-                }
+        let place = board::place_on(e, free, soon, &dues);
+        let i = board::within(place, len);
+        let c = calls[i];
+        let identifier = notes::identifier_in(e, &held, s.next);
+        let seen = Seen {
+            len: len,
+            place: place,
+            identifier: identifier,
+            call: c,
+        };
+        let t = turn::turned(s, e, seen);
+        match t {
+            Turn::Refused(code) => {
                 let answer = station::empty_answer(code);
                 at = printout::write_line(out, at, position + k as u64, answer);
-                k += 1;
-                continue;
             }
-            let answer = station::empty_answer(4);
-            at = printout::write_line(out, at, position + k as u64, answer);
-            k += 1;
-            continue;
+            Turn::NoneDue => {
+                soon = notes::refresh(soon, &dues, e.time);
+                s = turn::station_on(s, e, identifier);
+                let answer = station::empty_answer(0);
+                at = printout::write_line(out, at, position + k as u64, answer);
+            }
+            Turn::Done(x) => {
+                let d = x.call;
+                calls[i] = d;
+                free = notes::flip(free, i, c.direction, d.direction);
+                let due = notes::quiet_until(d);
+                dues[i] = due;
+                soon = notes::sooner(soon, due);
+                let id = notes::held_by(d);
+                held[i] = id;
+                s = turn::station_on(s, e, identifier);
+                let answer = turn::answer_of(i as u8, x);
+                at = printout::write_line(out, at, position + k as u64, answer);
+            }
         }
-        let answer = station::empty_answer(3);
-        at = printout::write_line(out, at, position + k as u64, answer);
         k += 1;
     }
-    let station = Station {
-        last: last,
-        next: next,
-        limit: limit,
-    };
     Played {
         board: Board {
-            station: station,
+            station: s,
             len: len,
             calls: calls,
         },

@@ -5,7 +5,7 @@ use mathlib.Core.Path.{_≡_, sym}
 use native.Mathlib.Omega.{arith}
 use lib.ListN.{length, take}
 use lib.Seq.{length-take-le}
-use Rattle.engine.specs.declared.Board.{Board}
+use Rattle.board.specs.declared.Board.{Board}
 use Rattle.panel.specs.declared.Played.{Played}
 use Rattle.panel.specs.Play.{Plays}
 use Rattle.panelrun.specs.Kept.{Kept}

@@ -2,7 +2,7 @@
 use Prim.Native.Nat.{ℕ, _+_, _≤_, _<_}
 use mathlib.Core.Path.{_≡_}
 use mathlib.Core.Bool.{true}
-use Rattle.engine.specs.Board.{soundBoard}
+use Rattle.board.specs.Board.{soundBoard}
 use Rattle.panelrun.specs.declared.Run.{Run}
 
 -- a sound board, less than a record of bytes held, and a position for each record that was played

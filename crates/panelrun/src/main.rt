@@ -3,9 +3,9 @@ ghost use mathlib.Core.Path.{_≡_};
 ghost use mathlib.Core.Bool.{true};
 ghost use Prim.Native.Nat.{_+_, _^_, _≤_, _<_};
 ghost use lib.ListN.{length};
-ghost use Rattle.engine.specs.Board.{soundBoard};
+ghost use Rattle.board.specs.Board.{soundBoard};
 ghost use Rattle.panelrun.specs.Kept.{Kept};
-use engine::Board;
+use board::Board;
 use libc::STDIN_FILENO;
 use libc::STDOUT_FILENO;
 

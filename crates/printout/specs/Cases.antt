@@ -6,6 +6,7 @@ use Prim.Native.Char.{code}
 use mathlib.Core.List.{List, [], _∷_, _++_, map}
 use lib.ListN.{replicate}
 use Rattle.event.specs.declared.Event.{Event}
+use Rattle.event.specs.Kinds.{unknown, cfu, noNotification, withNumber, allowed, CONNECT, OpenOutgoing, OpenIncoming, OpenWithDli2, DivertCall, ReroutingResult, Clock, ReroutingInvoke, OutgoingMessage}
 use Rattle.call.specs.declared.Call.{Call}
 use Rattle.call.specs.Record.{freeCall}
 use Rattle.station.specs.Station.{freshStation}
@@ -39,20 +40,20 @@ event kind call leg message reason option counter flag identifier first second t
 -- 10 (10999); 10 (11000); 6 as before (11001); 7 (call 1, identifier 65535, 11002)." Document 02, Three: "line 7 has identifier 1".
 abbrev pub nineEvents : List Event
 nineEvents =
-    event 1 0 0 0 0 0 0 0 0 101 0 0 1
-    ∷ event 12 0 1 0 1 2 1 0 9 0 207 0 2
-    ∷ event 14 0 1 3 0 0 0 1 0 0 0 0 3
-    ∷ event 2 0 0 0 0 0 0 0 0 102 0 0 4
-    ∷ event 6 1 0 0 1 0 0 0 0 0 300 0 1000
-    ∷ event 10 0 0 0 0 0 0 0 0 0 0 0 10999
-    ∷ event 10 0 0 0 0 0 0 0 0 0 0 0 11000
-    ∷ event 6 1 0 0 1 0 0 0 0 0 300 0 11001
-    ∷ event 7 1 0 0 0 0 0 0 65535 0 0 0 11002
+    event OpenOutgoing 0 0 0 0 0 0 0 0 101 0 0 1
+    ∷ event ReroutingInvoke 0 1 0 cfu withNumber 1 0 9 0 207 0 2
+    ∷ event OutgoingMessage 0 1 CONNECT 0 0 0 allowed 0 0 0 0 3
+    ∷ event OpenIncoming 0 0 0 0 0 0 0 0 102 0 0 4
+    ∷ event DivertCall 1 0 0 cfu noNotification 0 0 0 0 300 0 1000
+    ∷ event Clock 0 0 0 0 0 0 0 0 0 0 0 10999
+    ∷ event Clock 0 0 0 0 0 0 0 0 0 0 0 11000
+    ∷ event DivertCall 1 0 0 cfu noNotification 0 0 0 0 300 0 11001
+    ∷ event ReroutingResult 1 0 0 0 0 0 0 65535 0 0 0 11002
     ∷ []
 
 -- an incoming call with a counter, then its diversion
 abbrev pub divertedAt : ℕ → List Event
-divertedAt counter = event 3 0 0 0 0 0 counter 0 0 101 102 0 1 ∷ event 6 0 0 0 1 0 0 0 0 0 300 0 2 ∷ []
+divertedAt counter = event OpenWithDli2 0 0 0 unknown 0 counter 0 0 101 102 0 1 ∷ event DivertCall 0 0 0 cfu noNotification 0 0 0 0 300 0 2 ∷ []
 
 -- the lines that a fresh station of limit 15 prints on so many free records
 abbrev pub linesOn : ℕ → List Event → List (List ℕ)

@@ -9,11 +9,11 @@ use Rattle.notice.specs.Notice.{noNotice, noNumber}
 use Rattle.call.specs.declared.Call.{Call}
 use Rattle.call.specs.declared.Message.{Message}
 use Rattle.call.specs.declared.Sent.{Sent}
-use Rattle.call.specs.Messages.{noIdentifier, noCounter}
+use Rattle.call.specs.Messages.{noIdentifier, noCounter, noLetter}
 use Rattle.station.specs.declared.Station.{Station}
 use Rattle.station.specs.declared.Answer.{Answer}
 use Rattle.station.specs.Station.{noCall}
-use Rattle.station.specs.Step.{Outcome, step}
+use Rattle.station.specs.Step.{Turn, turns}
 
 -- characters are their ASCII numbers
 abbrev pub digit : ℕ → ℕ
@@ -45,11 +45,11 @@ column none n = when eqb n none then dash else decimal n
 
 -- "Letters, with leg"
 abbrev pub letterWithLeg : Message → List ℕ
-letterWithLeg m = when eqb (m .letter) 0 then [] else m .letter ∷ decimal (m .leg)
+letterWithLeg m = when eqb (m .letter) noLetter then [] else m .letter ∷ decimal (m .leg)
 
 abbrev pub messages : Sent → List ℕ
 messages sent =
-    when eqb (sent .first .letter) 0 then dash else
+    when eqb (sent .first .letter) noLetter then dash else
     letterWithLeg (sent .first) ++ letterWithLeg (sent .second) ++ letterWithLeg (sent .third)
 
 -- one line
@@ -63,9 +63,12 @@ line position a =
 abbrev pub cutLine : ℕ → List ℕ
 cutLine count = 99 ∷ 117 ∷ 116 ∷ 32 ∷ decimal count ++ newline
 
--- the lines of a list of events from a position on
+-- "prints a line each": the lines of the turns of a run, from a position on
+unfoldable pub linesOf : ℕ → List Turn → List (List ℕ)
+linesOf position [] = []
+linesOf position (t ∷ rest) = line position (t .outcome .answer) ∷ linesOf (suc position) rest
+
+-- the lines of a list of events
 unfoldable pub printed : ℕ → Station → List Call → List Event → List (List ℕ)
-printed position s calls [] = []
-printed position s calls (e ∷ rest) =
-    let o = step s calls e in
-    line position (o .answer) ∷ printed (suc position) (o .station) (o .calls) rest
+unfolding turns linesOf
+printed position s calls events = linesOf position (turns s calls events)

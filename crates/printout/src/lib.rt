@@ -6,7 +6,7 @@ ghost use lib.Dec.{eqb};
 ghost use Rattle.ground.specs.Choice.{when_then_else_};
 ghost use Rattle.printout.specs.Line.{digit, decimal, space, newline, column, messages, line, cutLine};
 ghost use Rattle.notice.specs.Notice.{noNotice, noNumber};
-ghost use Rattle.call.specs.Messages.{noIdentifier, noCounter};
+ghost use Rattle.call.specs.Messages.{noIdentifier, noCounter, noLetter};
 ghost use Rattle.station.specs.Station.{noCall};
 ghost use Rattle.printout.specs.Written.{Written};
 use call::Sent;
@@ -83,7 +83,7 @@ fn write_shown(out: &mut [u8], at: usize, call: u8, notice: u8, number: u16) -> 
 // A message's letter with its leg; a letter of 0 is no message.
 fn write_message(out: &mut [u8], at: usize, letter: u8, leg: u8) -> usize
     requires { ⌜ at + 21 ≤ length (now out) ⌝ }
-    ensures { λ r. ⌜ Written (when eqb letter 0 then [] else letter ∷ decimal leg) at (now (out .entry)) (now (out .exit)) r ⌝ }
+    ensures { λ r. ⌜ Written (when eqb letter noLetter then [] else letter ∷ decimal leg) at (now (out .entry)) (now (out .exit)) r ⌝ }
     ensures { λ r. ⌜ r ≤ at + 4 ⌝ }
 {
     if letter == 0 {

@@ -15,10 +15,9 @@ use Rattle.station.specs.declared.Station.{Station}
 use Rattle.station.specs.Step as list
 use Rattle.station.specs.Step.{Outcome, step}
 use Rattle.station.proofs.Places.{length-stays}
-use Rattle.engine.specs.declared.Board.{Board}
-use Rattle.engine.specs.declared.Stepped.{Stepped}
-use Rattle.engine.specs.Board.{lent, putBack, soundBoard, stepBoard}
-use Rattle.engine.proofs.Kept.{taken-again}
+use Rattle.board.specs.declared.Board.{Board}
+use Rattle.board.specs.Board.{Stepped, tableOf, putBack, soundBoard, stepBoard}
+use Rattle.board.proofs.Kept.{taken-again}
 use Rattle.runs.specs.declared.Ran.{Ran}
 use Rattle.runs.specs.Run.{ran, counted, runBy, runBoard}
 use Rattle.runs.specs.Statements.{heldIn, RunsTheList, RefusesTheList}
@@ -37,14 +36,14 @@ module _ (b : Board) (short : b .len ≤ 64) (cut : ℕ) where
   boardOf s calls = record { station = s; len = b .len; calls = calls ++ drop (b .len) (b .calls) }
 
   -- a step on the lent table, put back
-  one-step : (s : Station) (calls : List Call) (e : Event) → length calls ≡ length (lent b)
+  one-step : (s : Station) (calls : List Call) (e : Event) → length calls ≡ length (tableOf b)
       → stepBoard (boardOf s calls) e ≡ record { answer = step s calls e .answer; board = boardOf (step s calls e .station) (step s calls e .calls) }
   one-step s calls e q =
       let t = taken-again (b .len) (b .calls) calls q in
       let d = dropped-again (b .len) (b .calls) calls q in
       rw (le-ltb 64 (b .len) short, t, d)
 
-  one-count : (r : list.Ran) (e : Event) → length (r .calls) ≡ length (lent b)
+  one-count : (r : list.Ran) (e : Event) → length (r .calls) ≡ length (tableOf b)
       → counted (heldIn b cut r) (stepBoard (boardOf (r .station) (r .calls)) e) ≡ heldIn b cut (list.runStep r e)
   one-count r e q = ap (counted (heldIn b cut r)) (one-step (r .station) (r .calls) e q) ∙ same (step (r .station) (r .calls) e)
     where
@@ -56,7 +55,7 @@ module _ (b : Board) (short : b .len ≤ 64) (cut : ℕ) where
           go true = refl
           go false = refl
 
-  all-events : (r : list.Ran) (events : List Event) → length (r .calls) ≡ length (lent b) → runBy stepBoard (heldIn b cut r) events ≡ heldIn b cut (list.runOn r events)
+  all-events : (r : list.Ran) (events : List Event) → length (r .calls) ≡ length (tableOf b) → runBy stepBoard (heldIn b cut r) events ≡ heldIn b cut (list.runOn r events)
   unfolding runBy list.runOn
   all-events r [] q = refl
   all-events r (e ∷ rest) q =
@@ -67,7 +66,7 @@ pub runs-the-list : RunsTheList
 runs-the-list b bytes short =
     ap (λ c. runBy stepBoard (ran 0 0 (length bytes % 24) (record { station = b .station; len = b .len; calls = c })) (eventsFrom bytes 0 (length bytes / 24)))
     (sym (take-append-drop (b .len) (b .calls)))
-    ∙ all-events b short (length bytes % 24) (record { done = 0; refused = 0; station = b .station; calls = lent b }) (eventsFrom bytes 0 (length bytes / 24)) refl
+    ∙ all-events b short (length bytes % 24) (record { done = 0; refused = 0; station = b .station; calls = tableOf b }) (eventsFrom bytes 0 (length bytes / 24)) refl
 
 pub refuses-the-list : RefusesTheList
 refuses-the-list b bytes long = never-sound b bytes (length bytes / 24) (rw (lt-ltb 64 (b .len) long))

@@ -10,11 +10,10 @@ use lib.ListN.{length}
 use Rattle.ground.specs.Choice.{when_then_else_}
 use Rattle.event.specs.declared.Event.{Event}
 use Rattle.event.specs.Record.{eventAt, eventsFrom}
-use Rattle.engine.specs.declared.Board.{Board}
-use Rattle.engine.specs.declared.Stepped.{Stepped}
-use Rattle.engine.specs.Board.{soundBoard, stepBoard, stepSoundBoard, refusedBoard}
-use Rattle.engine.proofs.Steps.{tested-step, unsound-step}
-use Rattle.engine.proofs.Kept.{board-kept}
+use Rattle.board.specs.declared.Board.{Board}
+use Rattle.board.specs.Board.{Stepped, soundBoard, stepBoard, stepSoundBoard, refusedBoard}
+use Rattle.board.proofs.Steps.{tested-step, unsound-step}
+use Rattle.board.proofs.Kept.{board-kept}
 use Rattle.runs.specs.declared.Ran.{Ran}
 use Rattle.runs.specs.Run.{ran, counted, runBy, runFirst, runBoard}
 

@@ -1,3 +1,3 @@
 pub mod Folds
-pub mod Plays
+pub mod Playing
 pub mod Bridge

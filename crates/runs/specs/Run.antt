@@ -6,9 +6,8 @@ use lib.ListN.{length}
 use Rattle.ground.specs.Choice.{when_then_else_}
 use Rattle.event.specs.declared.Event.{Event}
 use Rattle.event.specs.Record.{eventsFrom}
-use Rattle.engine.specs.declared.Board.{Board}
-use Rattle.engine.specs.declared.Stepped.{Stepped}
-use Rattle.engine.specs.Board.{stepBoard}
+use Rattle.board.specs.declared.Board.{Board}
+use Rattle.board.specs.Board.{Stepped, stepBoard}
 use Rattle.runs.specs.declared.Ran.{Ran}
 
 abbrev pub ran : ℕ → ℕ → ℕ → Board → Ran

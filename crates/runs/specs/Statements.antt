@@ -5,8 +5,8 @@ use mathlib.Core.Path.{_≡_}
 use lib.ListN.{length, drop}
 use Rattle.event.specs.Record.{eventsFrom}
 use Rattle.station.specs.Step as list
-use Rattle.engine.specs.declared.Board.{Board}
-use Rattle.engine.specs.Board.{lent}
+use Rattle.board.specs.declared.Board.{Board}
+use Rattle.board.specs.Board.{tableOf}
 use Rattle.runs.specs.declared.Ran.{Ran}
 use Rattle.runs.specs.Run.{ran, runBoard}
 
@@ -18,7 +18,7 @@ heldIn b cut r = ran (r .done) (r .refused) cut (record { station = r .station; 
 abbrev pub RunsTheList : Type 0
 RunsTheList =
     (b : Board) (bytes : List ℕ) → b .len ≤ 64
-    → runBoard b bytes ≡ heldIn b (length bytes % 24) (list.run (b .station) (lent b) (eventsFrom bytes 0 (length bytes / 24)))
+    → runBoard b bytes ≡ heldIn b (length bytes % 24) (list.run (b .station) (tableOf b) (eventsFrom bytes 0 (length bytes / 24)))
 
 -- on a longer one every event is refused with 1 and the board stays
 abbrev pub RefusesTheList : Type 0

@@ -1,54 +1,180 @@
-// "What a record may hold": when one record is sound. A free record is decided first.
+// "What a record may hold": when one record is sound. By cases, so that each looks at few fields; fields that are unused are tested together, by words.
 ghost use mathlib.Core.Path.{_≡_};
 ghost use mathlib.Core.Bool.{_&&_};
-ghost use lib.Dec.{eqb};
+ghost use lib.Dec.{eqb, leb};
+ghost use Rattle.station.specs.Station.{limitOk, nextOk};
 ghost use Rattle.call.specs.Record.{fits as fitsState};
-ghost use Rattle.call.specs.Soundness.{dli1Unused, historyUnused, outgoingUnused, incomingUnused, outgoingCodes, waitingHolds, historyHolds, divertHolds, soundOutgoing, incomingCodes, cdfHolds, numbersHold, requestHolds, identifierThere, excludes as excludesHold, waitHolds, soundIncoming, soundCall};
+ghost use Rattle.call.specs.Soundness.{dli1Unused, historyUnused, outgoingUnused, incomingUnused, outgoingCodes, waitingHolds, historyHolds, divertHolds, soundCall};
+ghost use Rattle.sound.specs.Cases.{divertedBy, requestBy, incomingBase, incomingRest, incomingBy, outgoingBase, outgoingRest, outgoingBy};
+ghost use Rattle.sound.specs.Words.{legsWord, partyWord, toldWord, codesWord, numbersWord};
 use call::Call;
 use notice::Dli1;
 use notice::History;
 
+// Fields that lie side by side in memory, as one number: the compiler reads it by one load. CDO and CDR.
+fn legs_word(c: Call) -> u64
+    ensures { λ r. ⌜ r ≡ legsWord c ⌝ }
+{
+    (c.cdo as u64) + 256 * (c.cdr as u64)
+}
+
+// The party on leg 1, the DLI1 that waits, and the beginning of the history.
+fn party_word(c: Call) -> u64
+    ensures { λ r. ⌜ r ≡ partyWord c ⌝ }
+{
+    let w = c.waiting;
+    let h = c.history;
+    (c.party as u64)
+        + 65536 * (w.reason as u64)
+        + 16777216 * (w.option as u64)
+        + 4294967296 * (w.number as u64)
+        + 281474976710656 * (h.seen as u64)
+        + 72057594037927936 * (h.strictest as u64)
+}
+
+// The rest of the history.
+fn told_word(c: Call) -> u64
+    ensures { λ r. ⌜ r ≡ toldWord c ⌝ }
+{
+    let h = c.history;
+    (h.forbidden as u64) + 256 * (h.shown as u64) + 65536 * (h.nominated as u64)
+}
+
+// CDS, CDF, the granted mark and the counter.
+fn codes_word(c: Call) -> u64
+    ensures { λ r. ⌜ r ≡ codesWord c ⌝ }
+{
+    (c.cds as u64)
+        + 256 * (c.cdf as u64)
+        + 65536 * (c.granted as u64)
+        + 16777216 * (c.counter as u64)
+}
+
+// The numbers of an incoming call, and its identifier.
+fn numbers_word(c: Call) -> u64
+    ensures { λ r. ⌜ r ≡ numbersWord c ⌝ }
+{
+    let own = c.own;
+    let diverting = c.diverting;
+    let original = c.original;
+    let identifier = c.identifier;
+    (own as u64)
+        + 65536 * (diverting as u64)
+        + 4294967296 * (original as u64)
+        + 281474976710656 * (identifier as u64)
+}
+
+// All that only an outgoing call has is 0.
+fn outgoing_unused(c: Call) -> bool
+    ensures { λ r. ⌜ r ≡ outgoingUnused c ⌝ }
+{
+    let legs = legs_word(c);
+    let party = party_word(c);
+    let told = told_word(c);
+    (legs == 0) & (party == 0) & (told == 0)
+}
+
+// All that only an incoming call has is 0.
+fn incoming_unused(c: Call) -> bool
+    ensures { λ r. ⌜ r ≡ incomingUnused c ⌝ }
+{
+    let codes = codes_word(c);
+    let numbers = numbers_word(c);
+    (codes == 0) & (numbers == 0) & (c.reason == 0) & (c.start == 0)
+}
+
+// No DLI1 waits.
 fn dli1_unused(d: Dli1) -> bool
     ensures { λ r. ⌜ r ≡ dli1Unused d ⌝ }
 {
     (d.reason == 0) & (d.option == 0) & (d.number == 0)
 }
 
+// "It is all 0 before the first DLI1"
 fn history_unused(h: History) -> bool
     ensures { λ r. ⌜ r ≡ historyUnused h ⌝ }
 {
     (h.seen == 0) & (h.strictest == 0) & (h.forbidden == 0) & (h.shown == 0) & (h.nominated == 0)
 }
 
-fn outgoing_unused(c: Call) -> bool
-    ensures { λ r. ⌜ r ≡ outgoingUnused c ⌝ }
+// "reason fits the basic state (cfu and cfb Proceeding, cfnr Received)"
+pub fn fits(reason: u8, c: Call) -> bool
+    ensures { λ r. ⌜ r ≡ fitsState reason c ⌝ }
 {
-    let waiting = c.waiting;
-    let history = c.history;
-    (c.cdo == 0) & (c.cdr == 0) & (c.party == 0) & dli1_unused(waiting) & history_unused(history)
+    (((reason == 1) | (reason == 2)) & (c.basic == 1)) | ((reason == 3) & (c.basic == 2))
 }
 
-fn incoming_unused(c: Call) -> bool
-    ensures { λ r. ⌜ r ≡ incomingUnused c ⌝ }
+// The call was diverted up to 15 times before, or not at all.
+fn diverted_holds(c: Call) -> bool
+    ensures { λ r. ⌜ r ≡ divertedBy c ⌝ }
 {
-    (c.cds == 0)
-        & (c.cdf == 0)
-        & (c.granted == 0)
-        & (c.counter == 0)
-        & (c.own == 0)
-        & (c.diverting == 0)
+    let counter = c.counter;
+    let cdf = c.cdf;
+    if counter == 0 {
+        return (cdf == 0) & ((c.diverting == 0) & (c.original == 0));
+    }
+    (counter <= 15) & ((cdf == 2) | ((cdf == 1) & !(c.basic == 3)))
+}
+
+// A request is open, one was granted, or neither.
+fn request_holds(c: Call, last: u64) -> bool
+    ensures { λ r. ⌜ r ≡ requestBy last c ⌝ }
+{
+    let cds = c.cds;
+    let granted = c.granted;
+    let fit = fits(c.reason, c);
+    if cds == 1 {
+        return (granted == 0) & fit & !(c.identifier == 0) & (c.start <= last);
+    }
+    if granted == 1 {
+        return (cds == 0) & fit & (c.identifier == 0) & (c.start == 0);
+    }
+    (cds == 0) & (granted == 0) & (c.reason == 0) & (c.identifier == 0) & (c.start == 0)
+}
+
+// What holds of each incoming call's record.
+fn incoming_base(c: Call) -> bool
+    ensures { λ r. ⌜ r ≡ incomingBase c ⌝ }
+{
+    let unused = outgoing_unused(c);
+    let basic = c.basic;
+    unused & ((1 <= basic) & (basic <= 3)) & !(c.own == 0)
+}
+
+// The short case: neither diverted nor a request, so nothing else is there.
+fn incoming_rest(c: Call) -> bool
+    ensures { λ r. ⌜ r ≡ incomingRest c ⌝ }
+{
+    (c.diverting == 0)
         & (c.original == 0)
-        & (c.identifier == 0)
-        & (c.reason == 0)
-        & (c.start == 0)
+        & ((c.reason == 0) & (c.identifier == 0) & (c.start == 0))
 }
 
+// "Incoming: .."
+fn sound_incoming(c: Call, last: u64) -> bool
+    ensures { λ r. ⌜ r ≡ incomingBy last c ⌝ }
+{
+    if incoming_base(c) {
+        let codes = codes_word(c);
+        if codes == 0 {
+            return incoming_rest(c);
+        }
+        if diverted_holds(c) {
+            return request_holds(c, last);
+        }
+        return false;
+    }
+    false
+}
+
+// "each code is in range"
 fn outgoing_codes(c: Call) -> bool
     ensures { λ r. ⌜ r ≡ outgoingCodes c ⌝ }
 {
     (1 <= c.basic) & (c.basic <= 3) & (c.cdo <= 1) & (c.cdr <= 1)
 }
 
+// "CDR is Invoked only in Delivered and with reason cfnr"; else no DLI1 waits.
 fn waiting_holds(c: Call) -> bool
     ensures { λ r. ⌜ r ≡ waitingHolds c ⌝ }
 {
@@ -60,6 +186,7 @@ fn waiting_holds(c: Call) -> bool
     }
 }
 
+// A history of a call with a DLI1, or of one without.
 fn history_holds(h: History) -> bool
     ensures { λ r. ⌜ r ≡ historyHolds h ⌝ }
 {
@@ -70,6 +197,7 @@ fn history_holds(h: History) -> bool
     }
 }
 
+// "CDO is Divert exactly when a DLI1 was seen and the state isn't Active"
 fn divert_holds(c: Call) -> bool
     ensures { λ r. ⌜ r ≡ divertHolds c ⌝ }
 {
@@ -78,101 +206,52 @@ fn divert_holds(c: Call) -> bool
     (divert & told) | (!divert & !told)
 }
 
+// What holds of each outgoing call's record.
+fn outgoing_base(c: Call) -> bool
+    ensures { λ r. ⌜ r ≡ outgoingBase c ⌝ }
+{
+    let unused = incoming_unused(c);
+    let codes = outgoing_codes(c);
+    unused & codes & !(c.party == 0)
+}
+
+// The short case: nothing waits and no DLI1 was seen, so nothing else is there.
+fn outgoing_rest(c: Call) -> bool
+    ensures { λ r. ⌜ r ≡ outgoingRest c ⌝ }
+{
+    let legs = legs_word(c);
+    let told = told_word(c);
+    (legs == 0) & (told == 0)
+}
+
+// "Outgoing: .."
 fn sound_outgoing(c: Call) -> bool
-    ensures { λ r. ⌜ r ≡ soundOutgoing c ⌝ }
+    ensures { λ r. ⌜ r ≡ outgoingBy c ⌝ }
 {
     let history = c.history;
-    incoming_unused(c)
-        & outgoing_codes(c)
-        & !(c.party == 0)
-        & waiting_holds(c)
-        & history_holds(history)
-        & divert_holds(c)
+    if outgoing_base(c) {
+        let party = party_word(c);
+        if party < 65536 {
+            return outgoing_rest(c);
+        }
+        if waiting_holds(c) {
+            if history_holds(history) {
+                return divert_holds(c);
+            }
+            return false;
+        }
+        return false;
+    }
+    false
 }
 
-fn incoming_codes(c: Call) -> bool
-    ensures { λ r. ⌜ r ≡ incomingCodes c ⌝ }
-{
-    (1 <= c.basic)
-        & (c.basic <= 3)
-        & (c.cds <= 1)
-        & (c.cdf <= 2)
-        & (c.granted <= 1)
-        & (c.counter <= 15)
-        & (c.reason <= 3)
-}
-
-fn cdf_holds(c: Call) -> bool
-    ensures { λ r. ⌜ r ≡ cdfHolds c ⌝ }
-{
-    let none = c.cdf == 0;
-    let undiverted = c.counter == 0;
-    (none & undiverted) | (!none & !undiverted)
-}
-
-fn numbers_hold(c: Call) -> bool
-    ensures { λ r. ⌜ r ≡ numbersHold c ⌝ }
-{
-    !(c.counter == 0) | ((c.diverting == 0) & (c.original == 0))
-}
-
-fn request_holds(c: Call) -> bool
-    ensures { λ r. ⌜ r ≡ requestHolds c ⌝ }
-{
-    let requested = c.cds == 1;
-    (requested | (c.granted == 1) | (c.reason == 0))
-        & (requested | ((c.identifier == 0) & (c.start == 0)))
-}
-
-// Document 02, Three: "an open request with 0 .. is 1"
-fn identifier_there(c: Call) -> bool
-    ensures { λ r. ⌜ r ≡ identifierThere c ⌝ }
-{
-    !(c.cds == 1) | !(c.identifier == 0)
-}
-
-// "reason fits the basic state (cfu and cfb Proceeding, cfnr Received)"
-pub fn fits(reason: u8, c: Call) -> bool
-    ensures { λ r. ⌜ r ≡ fitsState reason c ⌝ }
-{
-    (((reason == 1) | (reason == 2)) & (c.basic == 1)) | ((reason == 3) & (c.basic == 2))
-}
-
-fn excludes(c: Call) -> bool
-    ensures { λ r. ⌜ r ≡ excludesHold c ⌝ }
-{
-    let requested = c.cds == 1;
-    let granted = c.granted == 1;
-    let held = requested | granted;
-    let fit = fits(c.reason, c);
-    !(requested & granted) & (!held | !(c.basic == 3)) & (!held | fit)
-}
-
-fn wait_holds(c: Call) -> bool
-    ensures { λ r. ⌜ r ≡ waitHolds c ⌝ }
-{
-    !((c.cdf == 1) & (c.basic == 3))
-}
-
-fn sound_incoming(c: Call, last: u64) -> bool
-    ensures { λ r. ⌜ r ≡ soundIncoming last c ⌝ }
-{
-    outgoing_unused(c)
-        & incoming_codes(c)
-        & !(c.own == 0)
-        & cdf_holds(c)
-        & numbers_hold(c)
-        & request_holds(c)
-        & identifier_there(c)
-        & excludes(c)
-        & wait_holds(c)
-        & (c.start <= last)
-}
-
+// "A record is free": each field is 0.
 fn sound_free(c: Call) -> bool
     ensures { λ r. ⌜ r ≡ (eqb (c .basic) 0 && outgoingUnused c && incomingUnused c) ⌝ }
 {
-    (c.basic == 0) & outgoing_unused(c) & incoming_unused(c)
+    let outgoing = outgoing_unused(c);
+    let incoming = incoming_unused(c);
+    (c.basic == 0) & outgoing & incoming
 }
 
 // One record is sound, where the station's last time is given.
@@ -189,4 +268,11 @@ pub fn sound_call(c: Call, last: u64) -> bool
     } else {
         false
     }
+}
+
+// "1 to 64 call records", a limit of 1 to 15, and a next identifier that is not 0.
+pub fn in_bounds(len: usize, limit: u8, next: u16) -> bool
+    ensures { λ r. ⌜ r ≡ ((leb 1 len && leb len 64) && (limitOk limit && nextOk next)) ⌝ }
+{
+    (1 <= len) & (len <= 64) & ((1 <= limit) & (limit <= 15) & !(next == 0))
 }

@@ -23,7 +23,7 @@ use Rattle.station.specs.declared.Answer.{Answer}
 use Rattle.station.specs.Station.{emptyAnswer}
 use Rattle.station.specs.Table.{sound, identifierFor, place}
 use Rattle.station.specs.Refusals.{notSound, early, refusalOnSound, refusal}
-use Rattle.station.specs.Step.{Outcome, refused, noneDue, effectAt, settled, done, byNumber, step, outcomes}
+use Rattle.station.specs.Step.{Outcome, refused, noneDue, effectAt, settled, done, byNumber, step, turns, outcomes}
 use Rattle.station.proofs.Kept.{step-sound}
 use Rattle.station.specs.Demand3.{StricterAnswer, SameStates, StricterOutcome, RunsStricter, acts}
 use Rattle.station.proofs.Shared.{same-states, at-stricter, place-same, identifier-same, station-same, refusal-same, acts-same}
@@ -123,7 +123,7 @@ sound-stricter s t h = table-stricter (s .last) t (search (and-l, and-r))
 
 runs-rel : (s : Station) {t t' : List Call} {es es' : List Event} → T (sound s t) → T (sound s t') → Forall₂ StricterCall t t'
     → Forall₂ StricterEvent es es' → Forall₂ StricterOutcome (outcomes s t es) (outcomes s t' es')
-unfolding outcomes
+unfolding turns
 runs-rel s a b q Forall₂·nil = Forall₂·nil
 runs-rel s {t} {t'} a b q (Forall₂·cons {a = e} {b = e'} {l₁ = es} {l₂ = es'} p ps) =
     let w = step-rel s q p a b in

@@ -20,7 +20,7 @@ use Rattle.call.proofs.Kept.{sound-later, act-kept, act-request}
 use Rattle.station.specs.declared.Station.{Station}
 use Rattle.station.specs.Station.{nextOk, freshStation}
 use Rattle.station.specs.Table.{at, requestsOf, sound, identifierFor, place}
-use Rattle.station.specs.Step.{Outcome, nextAfter, stationAfter, effectAt, step, outcomes, runStep, runOn}
+use Rattle.station.specs.Step.{Outcome, nextAfter, stationAfter, effectAt, step, turns, outcomes, runStep, runOn}
 use Rattle.station.specs.Demand2.{StepSound, OutcomesSound, RunSound, FreshSound}
 use Rattle.station.proofs.Numbers.{Passed}
 use Rattle.station.proofs.Stepped.{Stepped, refuses, settles, passes, stepped}
@@ -88,7 +88,7 @@ pub step-sound : StepSound
 step-sound s calls e h = sound-after (stepped s calls e) h
 
 pub outcomes-sound : OutcomesSound
-unfolding outcomes all
+unfolding turns all
 outcomes-sound s calls [] h = tt
 outcomes-sound s calls (e ∷ rest) h =
     let o = step s calls e in

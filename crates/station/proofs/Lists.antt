@@ -1,28 +1,34 @@
 -- A list of events: each acts on what those before it left. Assumes nothing.
 use Prim.Native.Nat.{suc, _+_}
 use native.Mathlib.Omega.{arith}
-use mathlib.Core.Path.{_≡_, refl, ap}
+use mathlib.Core.Path.{_≡_, refl, ap, _∙_}
 use mathlib.Core.Bool.{true, false}
 use mathlib.Core.List.{List, [], _∷_, _++_}
 use lib.Dec.{eqb}
-use lib.ListN.{length, getD}
+use lib.ListN.{length, getD, List·getD-map}
 use Rattle.ground.specs.Choice.{when_then_else_}
 use Rattle.event.specs.declared.Event.{Event}
-use Rattle.station.specs.Step.{Outcome, step, outcomes, Ran, counted, runStep, runOn}
-use Rattle.station.specs.Demand2.{OutcomesEach, OutcomesLength, RunCounts}
+use Rattle.station.specs.Step.{Outcome, step, Turn, turn, turns, Ran, counted, runStep, runOn}
+use Rattle.station.specs.Demand2.{TurnsEach, OutcomesEach, OutcomesLength, RunCounts}
 
 -- whatever was counted before
-each : (r : Ran) (before : List Event) (e : Event) (behind : List Event) (d : Outcome)
-    → getD (outcomes (r .station) (r .calls) (before ++ (e ∷ behind))) (length before) d ≡ step (runOn r before .station) (runOn r before .calls) e
-unfolding outcomes runOn
+each : (r : Ran) (before : List Event) (e : Event) (behind : List Event) (d : Turn)
+    → getD (turns (r .station) (r .calls) (before ++ (e ∷ behind))) (length before) d ≡ turn (runOn r before .station) (runOn r before .calls) e
+unfolding turns runOn
 each r [] e behind d = refl
 each r (x ∷ before) e behind d = each (runStep r x) before e behind d
 
+pub turns-each : TurnsEach
+turns-each s calls before e behind d = each (record { done = 0; refused = 0; station = s; calls = calls }) before e behind d
+
 pub outcomes-each : OutcomesEach
-outcomes-each s calls before e behind d = each (record { done = 0; refused = 0; station = s; calls = calls }) before e behind d
+outcomes-each s calls before e behind d =
+    let none : Turn = record { station = s; calls = calls; event = e; outcome = d } in
+    List·getD-map (λ (t : Turn). t .outcome) (turns s calls (before ++ (e ∷ behind))) (length before) none
+    ∙ ap (λ (t : Turn). t .outcome) (turns-each s calls before e behind none)
 
 pub outcomes-length : OutcomesLength
-unfolding outcomes
+unfolding turns
 outcomes-length s calls [] = refl
 outcomes-length s calls (e ∷ rest) = ap suc (outcomes-length (step s calls e .station) (step s calls e .calls) rest)
 

@@ -20,7 +20,7 @@ use Rattle.call.proofs.Stricter.{framed-of, opening-same}
 use Rattle.station.specs.declared.Station.{Station}
 use Rattle.station.specs.Station.{emptyAnswer}
 use Rattle.station.specs.Table.{at, sound, identifierFor, place}
-use Rattle.station.specs.Step.{effectAt, step, outcomes}
+use Rattle.station.specs.Step.{effectAt, step, turn, turns}
 use Rattle.station.proofs.Kept.{step-sound}
 use Rattle.station.specs.Demand3.{tightened, acts, touchedBy, touchedAfter, WholeAnswers, over, onward, untouched, LivesEqual}
 use Rattle.station.proofs.Shared.{place-same, identifier-same, refusal-same, acts-same}
@@ -86,22 +86,22 @@ module _ (touched : ℕ → Bool) (s : Station) {t t' : List Call} {e e' : Event
         (λ y. acting-answer (from-true (acts s t e) y) (from-true (acts s t' e') (same-acts ∙ y)) (rw y at n))
         (λ o. idle-same (from-false (acts s t e) o) (from-false (acts s t' e') (same-acts ∙ o)))
 
-    records-same : Same (touchedAfter touched s t e e') (step s t e .calls) (step s t' e' .calls)
+    records-same : Same (touchedAfter touched (turn s t e) e') (step s t e .calls) (step s t' e' .calls)
     records-same i n =
         by-cases (acts s t e)
         (λ y. acting-record (from-true (acts s t e) y) (from-true (acts s t' e') (same-acts ∙ y)) i (rw y at n))
         (λ o. rw (idle-calls s t e (from-false (acts s t e) o), idle-calls s t' e' (from-false (acts s t' e') (same-acts ∙ o))) (alike i (rw o at n)))
 
 lives-rel : (touched : ℕ → Bool) (s : Station) {t t' : List Call} {es es' : List Event} → T (sound s t) → T (sound s t') → Forall₂ StricterCall t t'
-    → Same touched t t' → Forall₂ StricterEvent es es' → WholeAnswers touched s t es es' (outcomes s t es) (outcomes s t' es')
-unfolding outcomes
+    → Same touched t t' → Forall₂ StricterEvent es es' → WholeAnswers touched (turns s t es) (turns s t' es')
+unfolding turns
 lives-rel touched s a b q alike Forall₂·nil = over
 lives-rel touched s {t} {t'} a b q alike (Forall₂·cons {a = e} {b = e'} {l₁ = es} {l₂ = es'} p ps) =
     let w = step-rel s q p a b in
-    let rest : WholeAnswers (touchedAfter touched s t e e') (step s t e .station) (step s t e .calls) es es'
-    (outcomes (step s t e .station) (step s t e .calls) es) (outcomes (step s t' e' .station) (step s t' e' .calls) es') =
+    let rest : WholeAnswers (touchedAfter touched (turn s t e) e')
+    (turns (step s t e .station) (step s t e .calls) es) (turns (step s t' e' .station) (step s t' e' .calls) es') =
     rw (w .station)
-    (lives-rel (touchedAfter touched s t e e') (step s t e .station) (step-sound s t e a) (rw (w .station) at (step-sound s t' e' b)) (w .calls)
+    (lives-rel (touchedAfter touched (turn s t e) e') (step s t e .station) (step-sound s t e a) (rw (w .station) at (step-sound s t' e' b)) (w .calls)
     (records-same touched s q p alike a b) ps)
     in
     onward (answer-same touched s q p alike a b) rest

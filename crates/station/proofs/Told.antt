@@ -20,7 +20,7 @@ use Rattle.station.specs.declared.Station.{Station}
 use Rattle.station.specs.Station.{freshStation}
 use Rattle.station.specs.Table.{at, identifierFor, place}
 use Rattle.station.specs.Refusals.{refusal}
-use Rattle.station.specs.Step.{effectAt, step, outcomes}
+use Rattle.station.specs.Step.{effectAt, step, turn, turns}
 use Rattle.station.specs.Demand3.{acts}
 use Rattle.station.specs.Told.{news, toldAfter, Fits, ByLists, over, onward, RunsByLists, nothingTold, FreshByLists, SoundFits}
 use Rattle.station.proofs.Numbers.{Passed, passed}
@@ -41,7 +41,7 @@ module _ (told : ℕ → List Told) (s : Station) (calls : List Call) (e : Event
       let (a, b) = addressed-there s calls e p in
       act-told (s .last) (identifierFor s calls) (told i) (at calls i) e (drawn-passes s calls (p .whole)) (record-sound s calls (p .whole) i l) (p .timely) (p .made) a b (fits i)
 
-  learns : Learns (told (place calls e)) (news s calls e) (step s calls e .answer .notice) (step s calls e .answer .number)
+  learns : Learns (told (place calls e)) (news (turn s calls e)) (step s calls e .answer .notice) (step s calls e .answer .number)
   learns =
       by-cases (acts s calls e)
       (λ y. let u = from-true (acts s calls e) y in rw (step-acts s calls e u, y) (told-there u .learns))
@@ -62,7 +62,7 @@ module _ (told : ℕ → List Told) (s : Station) (calls : List Call) (e : Event
       (and-i (acts s calls e) (eqb j (place calls e)) (from-true (acts s calls e) y) (eq→eqb j (place calls e) q))))
       (λ o. rw (idle-calls s calls e (from-false (acts s calls e) o)))
 
-  fits-after : Fits (toldAfter told s calls e) (step s calls e .calls)
+  fits-after : Fits (toldAfter told (turn s calls e)) (step s calls e .calls)
   fits-after j =
       when-has (λ (l : List Told). Remembers l (at (step s calls e .calls) j .history)) (acts s calls e && eqb j (place calls e))
       (λ t.
@@ -71,15 +71,15 @@ module _ (told : ℕ → List Told) (s : Station) (calls : List Call) (e : Event
       rw (q, acted u) (told-there u .remembers))
       (λ n. rw (stays j n) (fits j))
 
-  by-lists : ByLists told s calls e (step s calls e)
+  by-lists : ByLists told (turn s calls e)
   by-lists = record { learns = learns; fits = fits-after }
 
 pub runs-by-lists : RunsByLists
-unfolding outcomes
+unfolding turns
 runs-by-lists told s calls [] h fits = over
 runs-by-lists told s calls (e ∷ es) h fits =
     onward (by-lists told s calls e fits)
-    (runs-by-lists (toldAfter told s calls e) (step s calls e .station) (step s calls e .calls) es (step-sound s calls e h) (fits-after told s calls e fits))
+    (runs-by-lists (toldAfter told (turn s calls e)) (step s calls e .station) (step s calls e .calls) es (step-sound s calls e h) (fits-after told s calls e fits))
 
 none-fits : (n : ℕ) → Fits nothingTold (replicate n freeCall)
 none-fits zero i = none-told

@@ -11,7 +11,7 @@ use lib.ListN.{length, getD, set, replicate}
 use Rattle.ground.specs.Choice.{when_then_else_}
 use Rattle.ground.specs.Lists.{all}
 use Rattle.event.specs.declared.Event.{Event}
-use Rattle.event.specs.Kinds.{opens, answersRequest, diverts, clock, ends}
+use Rattle.event.specs.Kinds.{UserAnswers, ReroutingResult, ReroutingError, ReroutingInvoke, FarEndEnds, opens, answersRequest, diverts, clock, ends}
 use Rattle.identifier.specs.Identifier.{after, distinct}
 use Rattle.identifier.specs.Statements.{First}
 use Rattle.call.specs.declared.Call.{Call}
@@ -20,7 +20,7 @@ use Rattle.call.specs.Incoming.{counterSent, due, idle}
 use Rattle.station.specs.declared.Station.{Station}
 use Rattle.station.specs.Station.{limitOk, freshStation, emptyAnswer}
 use Rattle.station.specs.Table.{at, openIdentifiers, sound, identifierFor, place}
-use Rattle.station.specs.Step.{Outcome, step, outcomes, Ran, runOn, run}
+use Rattle.station.specs.Step.{Outcome, step, Turn, turn, turns, outcomes, Ran, runOn, run}
 use Rattle.station.specs.Demand1.{codeOf}
 
 -- "Each done event leaves a sound table", and a refused one leaves it as it was
@@ -38,6 +38,11 @@ RunSound =
     (r : Ran) (events : List Event) → T (sound (r .station) (r .calls)) → T (sound (runOn r events .station) (runOn r events .calls))
 
 -- each event of a list acts on what those before it left, and none is passed over
+abbrev pub TurnsEach : Type 0
+TurnsEach =
+    (s : Station) (calls : List Call) (before : List Event) (e : Event) (behind : List Event) (d : Turn)
+    → getD (turns s calls (before ++ (e ∷ behind))) (length before) d ≡ turn (run s calls before .station) (run s calls before .calls) e
+
 abbrev pub OutcomesEach : Type 0
 OutcomesEach =
     (s : Station) (calls : List Call) (before : List Event) (e : Event) (behind : List Event) (d : Outcome)
@@ -103,7 +108,7 @@ NextThere = (s : Station) (calls : List Call) (e : Event) → codeOf s calls e �
 abbrev pub InvokeEchoed : Type 0
 InvokeEchoed =
     (s : Station) (calls : List Call) (e : Event)
-    → e .kind ≡ 12
+    → e .kind ≡ ReroutingInvoke
     → codeOf s calls e ≡ 0
     → (step s calls e .answer .identifier ≡ e .identifier) × (step s calls e .answer .sent .first .identifier ≡ e .identifier)
 
@@ -154,7 +159,7 @@ OpenTakes = (s : Station) (calls : List Call) (e : Event) → codeOf s calls e �
 pub record Settles (before : List Call) (e : Event) (o : Outcome) : Type 0 where
   pub request : Open before (e .call) (e .identifier)
   pub over : T (not (requested (at (o .calls) (e .call))))
-  pub grants : granted (at (o .calls) (e .call)) ≡ eqb (e .kind) 7
+  pub grants : granted (at (o .calls) (e .call)) ≡ eqb (e .kind) ReroutingResult
   pub others : (j : ℕ) → (j ≡ e .call → ⊥) → at (o .calls) j ≡ at before j
 
 abbrev pub OutcomeSettles : Type 0
@@ -190,11 +195,11 @@ pub data Ending : Type 0 where
 -- the ending that a kind of event brings
 abbrev pub endingOf : Event → Option Ending
 endingOf e =
-    when eqb (e .kind) 7 then some result else
-    when eqb (e .kind) 8 then some reject else
+    when eqb (e .kind) ReroutingResult then some result else
+    when eqb (e .kind) ReroutingError then some reject else
     when clock e then some expiry else
-    when eqb (e .kind) 5 then some answered else
-    when ends e || eqb (e .kind) 15 then some closed else
+    when eqb (e .kind) UserAnswers then some answered else
+    when ends e || eqb (e .kind) FarEndEnds then some closed else
     none
 
 -- an event that was done at a place and has an ending

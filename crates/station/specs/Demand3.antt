@@ -21,7 +21,7 @@ use Rattle.station.specs.declared.Station.{Station}
 use Rattle.station.specs.declared.Answer.{Answer}
 use Rattle.station.specs.Table.{sound, place}
 use Rattle.station.specs.Refusals.{refusal}
-use Rattle.station.specs.Step.{Outcome, outcomes}
+use Rattle.station.specs.Step.{Outcome, Turn, placeIn, turns, outcomes}
 
 -- "the same code, call, identifier, counter and messages (arguments included)"; "a notice or a number only where the other does"
 pub record StricterAnswer (a a' : Answer) : Type 0 where
@@ -79,20 +79,24 @@ tightened e e' = not (eqb (e' .option) (e .option) && eqb (e' .flag) (e .flag))
 abbrev pub acts : Station → List Call → Event → Bool
 acts s calls e = eqb (refusal s calls e) 0 && ltb (place calls e) (length calls)
 
+-- the same of a turn
+abbrev pub actsIn : Turn → Bool
+actsIn t = acts (t .station) (t .calls) (t .event)
+
 -- an event that is done touched its call, or one before it did; an open begins a call
 abbrev pub touchedBy : (ℕ → Bool) → List Call → Event → Event → Bool
 touchedBy touched calls e e' = not (opens e) && (touched (place calls e) || tightened e e')
 
-abbrev pub touchedAfter : (ℕ → Bool) → Station → List Call → Event → Event → ℕ → Bool
-touchedAfter touched s calls e e' i = when acts s calls e && eqb i (place calls e) then touchedBy touched calls e e' else touched i
+abbrev pub touchedAfter : (ℕ → Bool) → Turn → Event → ℕ → Bool
+touchedAfter touched t e' i = when actsIn t && eqb i (placeIn t) then touchedBy touched (t .calls) (t .event) e' else touched i
 
 -- "In calls where nothing was tightened the whole answers are equal": wherever the event doesn't act on a call that was touched
-pub data WholeAnswers : (ℕ → Bool) → Station → List Call → List Event → List Event → List Outcome → List Outcome → Type 0 where
-  over : {touched : ℕ → Bool} {s : Station} {calls : List Call} → WholeAnswers touched s calls [] [] [] []
-  onward : {touched : ℕ → Bool} {s : Station} {calls : List Call} {e e' : Event} {es es' : List Event} {o o' : Outcome} {os os' : List Outcome}
-      → (T (not (acts s calls e && touchedBy touched calls e e')) → o' .answer ≡ o .answer)
-      → WholeAnswers (touchedAfter touched s calls e e') (o .station) (o .calls) es es' os os'
-      → WholeAnswers touched s calls (e ∷ es) (e' ∷ es') (o ∷ os) (o' ∷ os')
+pub data WholeAnswers : (ℕ → Bool) → List Turn → List Turn → Type 0 where
+  over : {touched : ℕ → Bool} → WholeAnswers touched [] []
+  onward : {touched : ℕ → Bool} {t t' : Turn} {ts ts' : List Turn}
+      → (T (not (actsIn t && touchedBy touched (t .calls) (t .event) (t' .event))) → t' .outcome .answer ≡ t .outcome .answer)
+      → WholeAnswers (touchedAfter touched t (t' .event)) ts ts'
+      → WholeAnswers touched (t ∷ ts) (t' ∷ ts')
 
 -- at first no call was touched
 abbrev pub untouched : ℕ → Bool
@@ -101,4 +105,4 @@ untouched i = false
 abbrev pub LivesEqual : Type 0
 LivesEqual =
     (s : Station) (calls : List Call) (es es' : List Event) → T (sound s calls) → Forall₂ StricterEvent es es'
-    → WholeAnswers untouched s calls es es' (outcomes s calls es) (outcomes s calls es')
+    → WholeAnswers untouched (turns s calls es) (turns s calls es')

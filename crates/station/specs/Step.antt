@@ -1,7 +1,7 @@
 -- One event, and a list of them.
 use Prim.Native.Nat.{ℕ, suc, _+_}
 use mathlib.Core.Bool.{Bool}
-use mathlib.Core.List.{List, [], _∷_}
+use mathlib.Core.List.{List, [], _∷_, map, foldl}
 use lib.Dec.{ltb, eqb}
 use lib.ListN.{length, set}
 use Rattle.ground.specs.Choice.{when_then_else_}
@@ -78,10 +78,28 @@ step s calls e = byNumber s calls e (refusal s calls e)
 unfoldable pub stepOnSound : Station → List Call → Event → Outcome
 stepOnSound s calls e = byNumber s calls e (refusalOnSound s calls e)
 
--- the outcome of each event, in order, each on what the one before it left
-unfoldable pub outcomes : Station → List Call → List Event → List Outcome
-outcomes s calls [] = []
-outcomes s calls (e ∷ rest) = let o = step s calls e in o ∷ outcomes (o .station) (o .calls) rest
+-- one turn of a run: the station and the records before the event, the event, and what came of it
+pub record Turn : Type 0 where
+  pub station : Station
+  pub calls : List Call
+  pub event : Event
+  pub outcome : Outcome
+
+abbrev pub turn : Station → List Call → Event → Turn
+turn s calls e = record { station = s; calls = calls; event = e; outcome = step s calls e }
+
+-- where its event acts
+abbrev pub placeIn : Turn → ℕ
+placeIn t = place (t .calls) (t .event)
+
+-- the turns of a list of events, in order, each on what the one before it left: what is said of a run is said of them
+unfoldable pub turns : Station → List Call → List Event → List Turn
+turns s calls [] = []
+turns s calls (e ∷ rest) = let t = turn s calls e in t ∷ turns (t .outcome .station) (t .outcome .calls) rest
+
+-- the outcome of each event, in order
+abbrev pub outcomes : Station → List Call → List Event → List Outcome
+outcomes s calls events = map (λ t. t .outcome) (turns s calls events)
 
 -- what a run of a list leaves, and how many events were done and how many refused
 pub record Ran : Type 0 where
@@ -102,8 +120,8 @@ abbrev pub runStep : Ran → Event → Ran
 runStep r e = counted r (step (r .station) (r .calls) e)
 
 unfoldable pub runOn : Ran → List Event → Ran
-runOn r [] = r
-runOn r (e ∷ rest) = runOn (runStep r e) rest
+unfolding turns
+runOn r events = foldl counted r (outcomes (r .station) (r .calls) events)
 
 abbrev pub run : Station → List Call → List Event → Ran
 run s calls events = runOn (record { done = 0; refused = 0; station = s; calls = calls }) events

@@ -15,46 +15,43 @@ use Rattle.call.specs.Record.{freeCall}
 use Rattle.call.specs.Told.{tells, listAfter, Remembers, Learns}
 use Rattle.station.specs.declared.Station.{Station}
 use Rattle.station.specs.Station.{limitOk, freshStation}
-use Rattle.station.specs.Table.{at, sound, place}
-use Rattle.station.specs.Step.{Outcome, step, outcomes}
-use Rattle.station.specs.Demand3.{acts}
+use Rattle.station.specs.Table.{at, sound}
+use Rattle.station.specs.Step.{Turn, placeIn, turns}
+use Rattle.station.specs.Demand3.{actsIn}
 
 -- `told i` is the list of what the call in record i took account of, the latest first.
 
 -- what an event brings to the CDO of the call that it acts on: nothing if it is refused
-abbrev pub news : Station → List Call → Event → List Told
-news s calls e = when acts s calls e then tells (at calls (place calls e)) e else []
+abbrev pub news : Turn → List Told
+news t = when actsIn t then tells (at (t .calls) (placeIn t)) (t .event) else []
 
 -- the lists after an event: at its place the list goes on, begins anew with an open, and ends where the record is free
-abbrev pub toldAfter : (ℕ → List Told) → Station → List Call → Event → ℕ → List Told
-toldAfter told s calls e i =
-    when acts s calls e && eqb i (place calls e) then listAfter (told i) (at calls i) e (at (step s calls e .calls) i) else
+abbrev pub toldAfter : (ℕ → List Told) → Turn → ℕ → List Told
+toldAfter told t i =
+    when actsIn t && eqb i (placeIn t) then listAfter (told i) (at (t .calls) i) (t .event) (at (t .outcome .calls) i) else
     told i
 
 -- each record's history is that of its list
 abbrev pub Fits : (ℕ → List Told) → List Call → Type 0
 Fits told calls = (i : ℕ) → Remembers (told i) (at calls i .history)
 
--- one event, where `told` are the lists before it
-pub record ByLists (told : ℕ → List Told) (s : Station) (before : List Call) (e : Event) (o : Outcome) : Type 0 where
+-- one turn, where `told` are the lists before it
+pub record ByLists (told : ℕ → List Told) (t : Turn) : Type 0 where
   -- the answer's notice and number are as the list of its call says, and none where the event brings nothing
-  pub learns : Learns (told (place before e)) (news s before e) (o .answer .notice) (o .answer .number)
+  pub learns : Learns (told (placeIn t)) (news t) (t .outcome .answer .notice) (t .outcome .answer .number)
   -- what is stored after it is the history of the lists after it
-  pub fits : Fits (toldAfter told s before e) (o .calls)
+  pub fits : Fits (toldAfter told t) (t .outcome .calls)
 
--- each event of a list, with the lists that those before it left
-pub data EachByLists : (ℕ → List Told) → Station → List Call → List Event → List Outcome → Type 0 where
-  over : {told : ℕ → List Told} {s : Station} {calls : List Call} → EachByLists told s calls [] []
-  onward : {told : ℕ → List Told} {s : Station} {calls : List Call} {e : Event} {es : List Event} {o : Outcome} {os : List Outcome}
-      → ByLists told s calls e o
-      → EachByLists (toldAfter told s calls e) (o .station) (o .calls) es os
-      → EachByLists told s calls (e ∷ es) (o ∷ os)
+-- each turn of a run, with the lists that those before it left
+pub data EachByLists : (ℕ → List Told) → List Turn → Type 0 where
+  over : {told : ℕ → List Told} → EachByLists told []
+  onward : {told : ℕ → List Told} {t : Turn} {ts : List Turn} → ByLists told t → EachByLists (toldAfter told t) ts → EachByLists told (t ∷ ts)
 
 -- from a sound table, with lists that fit it
 abbrev pub RunsByLists : Type 0
 RunsByLists =
     (told : ℕ → List Told) (s : Station) (calls : List Call) (es : List Event) → T (sound s calls) → Fits told calls
-    → EachByLists told s calls es (outcomes s calls es)
+    → EachByLists told (turns s calls es)
 
 -- at first no call was told anything
 abbrev pub nothingTold : ℕ → List Told
@@ -64,7 +61,7 @@ nothingTold i = []
 abbrev pub FreshByLists : Type 0
 FreshByLists =
     (limit n : ℕ) (es : List Event) → T (limitOk limit) → 1 ≤ n → n ≤ 64
-    → EachByLists nothingTold (freshStation limit) (replicate n freeCall) es (outcomes (freshStation limit) (replicate n freeCall) es)
+    → EachByLists nothingTold (turns (freshStation limit) (replicate n freeCall) es)
 
 -- every sound table has lists that fit it
 pub record Fitting (calls : List Call) : Type 0 where

@@ -1,87 +1,15 @@
-// What a step looks for in the lent table: the first `len` records of an array by value.
+// When a table is sound: the first `len` records of an array by value, and the identifiers of its open requests as a column.
 ghost use mathlib.Core.Path.{_≡_};
 ghost use mathlib.Core.Bool.{_&&_};
-ghost use Prim.Native.Nat.{ℕ, _≤_};
+ghost use Prim.Native.Nat.{_≤_};
 ghost use lib.Dec.{eqb};
 ghost use lib.ListN.{length, take, drop};
-ghost use Rattle.ground.specs.Lists.{first, all, any};
-ghost use Rattle.identifier.specs.Identifier.{distinct, drawn};
-ghost use Rattle.call.specs.Record.{isFree};
-ghost use Rattle.call.specs.Incoming.{due};
+ghost use Rattle.ground.specs.Lists.{all, any};
+ghost use Rattle.identifier.specs.Identifier.{distinct};
 ghost use Rattle.call.specs.Soundness.{soundCall};
 ghost use Rattle.station.specs.Table.{requestsOf};
 ghost use Rattle.table.specs.Column.{apartIn};
 use call::Call;
-
-// "An open takes the lowest free record."; len where none is free.
-pub fn first_free(calls: [Call; 64], len: usize) -> usize
-    requires { ⌜ len ≤ 64 ⌝ }
-    ensures { λ r. ⌜ r ≡ first isFree (take len calls) ⌝ }
-{
-    let mut i: usize = 0;
-    while i < len {
-        let c = calls[i];
-        if c.direction == 0 {
-            return i;
-        }
-        i += 1;
-    }
-    len
-}
-
-// "Requested with time minus start at least 10,000"
-fn is_due(c: Call, time: u64) -> bool
-    ensures { λ r. ⌜ r ≡ due time c ⌝ }
-{
-    let start = c.start;
-    let cds = c.cds;
-    if start <= time {
-        return (cds == 1) & (10000 <= time - start);
-    }
-    false
-}
-
-// The lowest record that is due; len where none is.
-pub fn first_due(calls: [Call; 64], len: usize, time: u64) -> usize
-    requires { ⌜ len ≤ 64 ⌝ }
-    ensures { λ r. ⌜ r ≡ first (due time) (take len calls) ⌝ }
-{
-    let mut k: usize = 0;
-    while k < len {
-        let c = calls[k];
-        if is_due(c, time) {
-            return k;
-        }
-        k += 1;
-    }
-    len
-}
-
-// "takes the first identifier from the next one on that no open request has": candidates in a row, each sought in the
-// table; left by label when a candidate is free.
-pub fn free_identifier(calls: [Call; 64], len: usize, next: u16) -> u16
-    requires { ⌜ len ≤ 64 ⌝ }
-    ensures { λ r. ⌜ r ≡ drawn (requestsOf (take len calls)) next ⌝ }
-{
-    let mut candidate = next;
-    let mut tries: usize = 0;
-    'candidate: while tries < 65 {
-        let mut i: usize = 0;
-        loop {
-            if i >= len {
-                break 'candidate;
-            }
-            let c = calls[i];
-            if (c.cds == 1) & (candidate == c.identifier) {
-                break;
-            }
-            i += 1;
-        }
-        candidate = identifier::next_after(candidate);
-        tries += 1;
-    }
-    candidate
-}
 
 // Whether the column holds the number wanted, from a place on.
 fn stands_from(held: &[u32; 64], from: usize, wanted: u32) -> bool
@@ -98,57 +26,48 @@ fn stands_from(held: &[u32; 64], from: usize, wanted: u32) -> bool
     false
 }
 
-// No two open requests share an identifier: all pairs are compared.
-fn apart(held: &[u32; 64]) -> bool
+// No two open requests share an identifier. From the last place to the first each number sets a mark; only where a mark was set already is the number
+// sought among those after it.
+pub fn apart(held: &[u32; 64]) -> bool
     requires { ⌜ length (now held) ≡ 64 ⌝ }
     ensures { λ r. ⌜ r ≡ apartIn (now (held .entry)) ⌝ }
 {
-    let mut i: usize = 0;
-    while i < 64 {
-        let wanted = held[i];
-        if wanted == 0 {
-            i += 1;
+    let mut marks = [0u8; 256];
+    let mut i: usize = 64;
+    while 0 < i {
+        let k = i - 1;
+        let x = held[k];
+        i = k;
+        if x == 0 {
             continue;
         }
-        if stands_from(held, i + 1, wanted) {
+        let m = (x % 256) as usize;
+        if marks[m] == 0 {
+            marks[m] = 1;
+            continue;
+        }
+        if stands_from(held, k + 1, x) {
             return false;
         }
-        i += 1;
     }
     true
 }
 
-// Each record is sound, "and no two Requested records share an identifier". From the last record to the first each
-// identifier sets a mark; only where a mark was set already are all pairs compared.
+// Each record is sound, "and no two Requested records share an identifier": the identifiers are copied into a column, which is tested at the end.
 pub fn sound_table(calls: [Call; 64], len: usize, last: u64) -> bool
     requires { ⌜ len ≤ 64 ⌝ }
     ensures { λ r. ⌜ r ≡ (all (soundCall last) (take len calls) && distinct (requestsOf (take len calls))) ⌝ }
 {
     let mut held = [0u32; 64];
-    let mut marks = [0u8; 256];
-    let mut clash = false;
-    let mut i = len;
-    while 0 < i {
-        let k = i - 1;
-        let c = calls[k];
+    let mut i: usize = 0;
+    while i < len {
+        let c = calls[i];
         if !sound::sound_call(c, last) {
             return false;
         }
-        i = k;
-        let id = desk::held_by(c);
-        held[k] = id;
-        if id == 0 {
-            continue;
-        }
-        let m = (id % 256) as usize;
-        if marks[m] == 0 {
-            marks[m] = 1;
-            continue;
-        }
-        clash = true;
+        let id = notes::held_by(c);
+        held[i] = id;
+        i += 1;
     }
-    if clash {
-        return apart(&held);
-    }
-    true
+    apart(&held)
 }

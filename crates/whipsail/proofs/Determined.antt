@@ -3,8 +3,8 @@ use mathlib.Core.Path.{_≡_}
 use mathlib.Core.List.{List}
 use Rattle.ground.proofs.Determined.{determined}
 use Rattle.call.specs.declared.Call.{Call}
-use Rattle.decide.specs.declared.Input.{Input}
-use Rattle.decide.specs.declared.Told.{Told}
+use Rattle.lent.specs.declared.Input.{Input}
+use Rattle.lent.specs.declared.Told.{Told}
 use Rattle.whipsail.specs.Lent.{toldOf, tableAfter}
 
 module _ (table : List Call) (input : Input) where

@@ -2,8 +2,8 @@
 use mathlib.Core.List.{List}
 use Rattle.call.specs.declared.Call.{Call}
 use Rattle.station.specs.Step.{Outcome, step}
-use Rattle.decide.specs.declared.Input.{Input}
-use Rattle.decide.specs.declared.Told.{Told}
+use Rattle.lent.specs.declared.Input.{Input}
+use Rattle.lent.specs.declared.Told.{Told}
 
 abbrev pub outcome : List Call → Input → Outcome
 outcome table input = step (input .station) table (input .event)

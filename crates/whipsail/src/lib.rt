@@ -1,21 +1,16 @@
-// What a host links: the engine under plain names, by the C calling convention. Every board, slice and event may be handed in.
+// What a host links: the engine under plain names, by the C calling convention. Every slice and event may be handed in.
+// The run stands in `whipsail_runs`, for the same archive.
 ghost use mathlib.Core.Path.{_≡_};
-ghost use Prim.Native.Nat.{ℕ};
 ghost use Rattle.event.specs.WellMade.{wellMade};
 ghost use Rattle.station.specs.Station.{freshOf, shortForm};
 ghost use Rattle.rehearsal.specs.Rehearsal.{rehearsalOf};
-ghost use Rattle.engine.specs.Board.{stepBoard};
-ghost use Rattle.runs.specs.Run.{runBoard};
 ghost use Rattle.whipsail.specs.Lent.{toldOf, tableAfter};
 ghost use Rattle.whipsail.specs.Read.{notRead, readAt};
 use call::Call;
-use decide::Input;
-use decide::Told;
-use engine::Board;
-use engine::Stepped;
 use event::Event;
+use lent::Input;
+use lent::Told;
 use rehearsal::Rehearsed;
-use runs::Ran;
 use station::Made;
 use station::Station;
 
@@ -90,15 +85,7 @@ pub extern "C" fn whipsail_event_at(bytes: &[u8], i: usize) -> Read
 pub extern "C" fn whipsail_well_made(e: Event) -> bool
     ensures { λ r. ⌜ r ≡ wellMade e ⌝ }
 {
-    event::well_made(e)
-}
-
-// One event.
-#[no_mangle]
-pub extern "C" fn whipsail_step(b: Board, e: Event) -> Stepped
-    ensures { λ r. ⌜ r ≡ stepBoard b e ⌝ }
-{
-    engine::step(b, e)
+    event::well_made(e.kind, e)
 }
 
 // One event on the records that the host lends, of any number: at most one of them is written.
@@ -106,19 +93,9 @@ pub extern "C" fn whipsail_step(b: Board, e: Event) -> Stepped
 pub extern "C" fn whipsail_lent_step(table: &mut [Call], input: Input) -> Told
     ensures { λ r. ⌜ (r ≡ toldOf (now (table .entry)) input) × (now (table .exit) ≡ tableAfter (now (table .entry)) input) ⌝ }
 {
-    let n = lent::fit(table.len());
-    let calls = lent::load(table, n);
-    let out = decide::decided(calls, n, input);
-    lent::settle(table, out.place, out.count, out.call);
+    let out = lent::looked(table, input);
+    slice::settle(table, out.place, out.count, out.call);
     out.told
-}
-
-// All whole records of 24 bytes, one after the other.
-#[no_mangle]
-pub extern "C" fn whipsail_run(b: Board, events: &[u8]) -> Ran
-    ensures { λ r. ⌜ r ≡ runBoard b (now (events .entry)) ⌝ }
-{
-    runs::run(b, events)
 }
 
 // Who rings if a call is offered to this panel of the plan first: four numbers for each panel.

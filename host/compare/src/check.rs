@@ -1,8 +1,9 @@
 //! The comparison: lists of events and single cases, and what is said of a
 //! difference.
 
+use crate::difference::{say_board, Difference};
 use crate::engine::{Archive, Engine};
-use crate::wire::{Answer, Board, Stepped};
+use crate::wire::{Answer, Board, Played, Stepped};
 use model::codes::OPEN_DIVERTED;
 use model::profile::{Profile, Walk};
 use model::shrink::shrink;
@@ -45,13 +46,6 @@ impl Counts {
     }
 }
 
-/// An event whose two outcomes differ.
-struct Difference {
-    at: usize,
-    expected: Stepped,
-    found: Stepped,
-}
-
 /// The engine beside the reference.
 pub struct Comparison<'a> {
     engine: RefCell<Engine>,
@@ -66,15 +60,17 @@ impl Comparison<'_> {
         }
     }
 
-    /// What the reference leaves of one event.
-    fn expect(&self, board: &Board, event: &Event) -> Stepped {
-        let mut table = board.lent();
-        let mut station = board.station;
-        let answer = (self.reference)(&mut table, &mut station, event);
-        Stepped {
-            answer: Answer::from(&answer),
-            board: board.with(&table, station),
-        }
+    /// What the reference leaves of a list.
+    fn expect(&self, start: &Board, events: &[Event]) -> Played {
+        let (mut table, mut station) = (start.lent(), start.station);
+        let step = |event: &Event| {
+            let answer = (self.reference)(&mut table, &mut station, event);
+            Stepped {
+                answer: Answer::from(&answer),
+                board: start.with(&table, station),
+            }
+        };
+        Played::of(start, events.iter().map(step).collect())
     }
 
     /// Sends events to the engine and looks for a difference. The first one
@@ -83,11 +79,11 @@ impl Comparison<'_> {
         &self,
         start: Option<&Board>,
         events: &[Event],
-        expected: Vec<Stepped>,
+        expected: &Played,
     ) -> Option<Difference> {
-        let boards = std::iter::once(start).chain(std::iter::repeat(None));
-        let found = self.engine.borrow_mut().steps(boards.zip(events));
-        first_difference(expected, found)
+        let lists = std::iter::once((start, events));
+        let found = self.engine.borrow_mut().play(lists);
+        Difference::first(expected, &found[0])
     }
 
     /// The first difference over a list of events, each side going on from
@@ -95,16 +91,12 @@ impl Comparison<'_> {
     fn over_list(&self, start: &Board, events: &[Event]) -> Option<Difference> {
         let mut board = start.clone();
         for (i, chunk) in events.chunks(CHUNK).enumerate() {
-            let mut expected: Vec<Stepped> = Vec::new();
-            for event in chunk {
-                expected.push(self.expect(&board, event));
-                board = expected[expected.len() - 1].board.clone();
+            let expected = self.expect(&board, chunk);
+            let first = (i == 0).then_some(start);
+            if let Some(difference) = self.meet(first, chunk, &expected) {
+                return Some(difference.after(i * CHUNK));
             }
-            let start = (i == 0).then_some(start);
-            if let Some(difference) = self.meet(start, chunk, expected) {
-                let at = i * CHUNK + difference.at;
-                return Some(Difference { at, ..difference });
-            }
+            board = expected.ran.board;
         }
         None
     }
@@ -122,7 +114,7 @@ impl Comparison<'_> {
         let mut counts = Counts::default();
         while played.len() < count {
             let before = played.len();
-            let mut expected = Vec::new();
+            let mut steps = Vec::new();
             for _ in before..count.min(before + CHUNK) {
                 let event = walk.propose();
                 let answer = (self.reference)(&mut walk.table, &mut walk.station, &event);
@@ -130,10 +122,11 @@ impl Comparison<'_> {
                 let board = start.with(&walk.table, walk.station);
                 counts.count(&answer);
                 played.push(event);
-                expected.push(Stepped { answer, board });
+                steps.push(Stepped { answer, board });
             }
+            let expected = Played::of(start, steps);
             let first = (before == 0).then_some(start);
-            if let Some(difference) = self.meet(first, &played[before..], expected) {
+            if let Some(difference) = self.meet(first, &played[before..], &expected) {
                 let name = format!("{} of seed {seed}", profile.name());
                 let cut = before + difference.at + 1;
                 return Err(self.report_list(&name, start, &played[..cut]));
@@ -145,14 +138,17 @@ impl Comparison<'_> {
     /// Single events, each on a board of its own.
     pub fn cases(&self, cases: &[(Board, Event)]) -> Result<Counts, String> {
         let mut counts = Counts::default();
+        let one = std::slice::from_ref::<Event>;
         for chunk in cases.chunks(CHUNK) {
-            let expected: Vec<Stepped> = chunk.iter().map(|(b, e)| self.expect(b, e)).collect();
-            expected.iter().for_each(|e| counts.count(&e.answer));
-            let boards = chunk.iter().map(|(board, event)| (Some(board), event));
-            let found = self.engine.borrow_mut().steps(boards);
-            if let Some(difference) = first_difference(expected, found) {
-                let (board, event) = &chunk[difference.at];
-                return Err(self.report_case(board, event));
+            let lists = chunk.iter().map(|(board, event)| (Some(board), one(event)));
+            let found = self.engine.borrow_mut().play(lists);
+            for ((board, event), found) in chunk.iter().zip(found) {
+                let expected = self.expect(board, one(event));
+                if Difference::first(&expected, &found).is_some() {
+                    return Err(self.report_case(board, event));
+                }
+                let answers = expected.steps.iter().map(|step| &step.answer);
+                answers.for_each(|answer| counts.count(answer));
             }
         }
         Ok(counts)
@@ -186,7 +182,7 @@ impl Comparison<'_> {
             let _ = writeln!(said, "{}", text::write_event(event));
         }
         if let Some(difference) = self.over_list(start, &short) {
-            say_difference(&mut said, &difference);
+            difference.say(&mut said);
         }
         said
     }
@@ -211,7 +207,7 @@ impl Comparison<'_> {
         say_board(&mut said, &board);
         let _ = writeln!(said, "{}", text::write_event(event));
         if let Some(difference) = self.over_list(&board, &[*event]) {
-            say_difference(&mut said, &difference);
+            difference.say(&mut said);
         }
         said
     }
@@ -230,50 +226,4 @@ fn without_open(events: &[Event], at: usize) -> Vec<Event> {
         }
     }
     list
-}
-
-fn first_difference(expected: Vec<Stepped>, found: Vec<Stepped>) -> Option<Difference> {
-    assert_eq!(expected.len(), found.len());
-    expected
-        .into_iter()
-        .zip(found)
-        .enumerate()
-        .find(|(_, (expected, found))| expected != found)
-        .map(|(at, (expected, found))| Difference {
-            at,
-            expected,
-            found,
-        })
-}
-
-fn say_board(said: &mut String, board: &Board) {
-    let _ = writeln!(said, "# {:?}, {} records lent", board.station, board.len);
-    for (at, call) in board.calls.iter().enumerate() {
-        if *call != Record::default() {
-            let _ = writeln!(said, "# {at}: {call:?}");
-        }
-    }
-}
-
-/// The parts of the two outcomes that differ.
-fn say_difference(said: &mut String, difference: &Difference) {
-    let Difference {
-        at,
-        expected,
-        found,
-    } = difference;
-    let _ = writeln!(said, "at event {at}, the model then the engine:");
-    if expected.answer != found.answer {
-        let _ = writeln!(said, "{:?}\n{:?}", expected.answer, found.answer);
-    }
-    let (expected, found) = (&expected.board, &found.board);
-    if (expected.station, expected.len) != (found.station, found.len) {
-        let _ = writeln!(said, "{:?} {}", expected.station, expected.len);
-        let _ = writeln!(said, "{:?} {}", found.station, found.len);
-    }
-    for (at, pair) in expected.calls.iter().zip(&found.calls).enumerate() {
-        if pair.0 != pair.1 {
-            let _ = writeln!(said, "{at}: {:?}\n{at}: {:?}", pair.0, pair.1);
-        }
-    }
 }

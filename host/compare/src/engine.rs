@@ -3,8 +3,8 @@
 use crate::memory::{self, Reader};
 use crate::plans;
 use crate::tables::{Laid, Told};
-use crate::wire::{Board, Ran, Stepped};
-use model::{Event, Station};
+use crate::wire::{Board, Played, Ran};
+use model::{panel, Event, Station};
 use std::io::{Read, Write};
 use std::ops::Range;
 use std::path::{Path, PathBuf};
@@ -60,6 +60,8 @@ pub struct Engine {
     child: Child,
     requests: Option<ChildStdin>,
     replies: ChildStdout,
+    /// Whether the server's board has a table that it can lend.
+    lends: bool,
 }
 
 impl Engine {
@@ -76,6 +78,7 @@ impl Engine {
             child,
             requests,
             replies,
+            lends: true,
         }
     }
 
@@ -95,37 +98,42 @@ impl Engine {
         bytes
     }
 
-    /// Each event with the board that it meets; with none it meets the board
-    /// that the one before has left.
-    pub fn steps<'a>(
+    /// Plays each list of events in both ways. It meets its board; with none,
+    /// each way goes on from what it has left of the list before.
+    pub fn play<'a>(
         &mut self,
-        cases: impl Iterator<Item = (Option<&'a Board>, &'a Event)>,
-    ) -> Vec<Stepped> {
+        lists: impl Iterator<Item = (Option<&'a Board>, &'a [Event])>,
+    ) -> Vec<Played> {
         let mut commands = Vec::new();
-        let mut count = 0;
-        for (board, event) in cases {
+        let mut counts = Vec::new();
+        for (board, events) in lists {
             if let Some(board) = board {
-                commands.push(b'B');
-                memory::put_board(&mut commands, board);
+                put_board(&mut commands, board);
+                self.lends = board.fits();
             }
-            commands.push(b'E');
-            memory::put_event(&mut commands, event);
-            count += 1;
+            let lent = if self.lends { events } else { &[] };
+            for event in lent {
+                commands.push(b'E');
+                memory::put_event(&mut commands, event);
+            }
+            put_run(&mut commands, &panel::bytes(events));
+            counts.push(lent.len());
         }
-        let reply = self.ask(&commands, count * memory::STEPPED);
-        reply
-            .chunks_exact(memory::STEPPED)
-            .map(|bytes| Reader(bytes).stepped())
-            .collect()
+        let size = |&count: &usize| count * memory::STEPPED + memory::RAN;
+        let reply = self.ask(&commands, counts.iter().map(size).sum());
+        let mut reader = Reader(&reply);
+        let mut played = |&count: &usize| Played {
+            steps: (0..count).map(|_| reader.stepped()).collect(),
+            ran: reader.ran(),
+        };
+        counts.iter().map(&mut played).collect()
     }
 
     /// A run over bytes.
     pub fn run(&mut self, board: &Board, bytes: &[u8]) -> Ran {
-        let mut commands = vec![b'B'];
-        memory::put_board(&mut commands, board);
-        commands.push(b'N');
-        commands.extend((bytes.len() as u64).to_le_bytes());
-        commands.extend(bytes);
+        let mut commands = Vec::new();
+        put_board(&mut commands, board);
+        put_run(&mut commands, bytes);
         Reader(&self.ask(&commands, memory::RAN)).ran()
     }
 
@@ -191,6 +199,17 @@ impl Engine {
         commands.extend(bytes);
         Reader(&self.ask(&commands, memory::READ)).read()
     }
+}
+
+fn put_board(commands: &mut Vec<u8>, board: &Board) {
+    commands.push(b'B');
+    memory::put_board(commands, board);
+}
+
+fn put_run(commands: &mut Vec<u8>, bytes: &[u8]) {
+    commands.push(b'N');
+    commands.extend((bytes.len() as u64).to_le_bytes());
+    commands.extend(bytes);
 }
 
 /// A command that lends a part of what follows it.

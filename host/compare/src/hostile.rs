@@ -67,6 +67,9 @@ fn damage(random: &mut Random, table: &mut [Record], station: &mut Station) {
     }
 }
 
+/// Lengths that no board has room for; a part of some would be a table's.
+pub const TOO_LONG: [u64; 7] = [65, 66, 255, 256, 1 << 32, (1 << 32) + 3, u64::MAX];
+
 /// A board and an event for it.
 pub fn case(random: &mut Random) -> (Board, Event) {
     let (mut table, mut station) = lent::sound_start(random);
@@ -75,7 +78,8 @@ pub fn case(random: &mut Random) -> (Board, Event) {
     let event = lent::event(random, &table, &station);
     let mut board = Board::of(&table, station, rest);
     if random.chance(5) {
-        board.len = random.pick(&[0, 65, 66, 255, 256, 1 << 32, (1 << 32) + 3, u64::MAX]);
+        let long = random.pick(&TOO_LONG);
+        board.len = random.weighted(&[(1, 0), (7, long)]);
     }
     (board, event)
 }
@@ -95,6 +99,18 @@ pub fn table(random: &mut Random) -> Case {
         _ => damage(random, &mut table, &mut station),
     }
     let event = lent::event(random, &table, &station);
+    Case {
+        table,
+        station,
+        event,
+    }
+}
+
+/// A table of that length whose records are sound, with an event for the first 64.
+pub fn long_table(random: &mut Random, length: usize) -> Case {
+    let station = lent::station(random);
+    let table = lent::table(random, length, &station);
+    let event = lent::event(random, &table[..MOST_RECORDS], &station);
     Case {
         table,
         station,

@@ -1,10 +1,11 @@
-//! Runs the proved engine and the model side by side, event by event, and
-//! compares all that an event leaves: every field of the answer, of every
-//! record, of the station, and the part of the array that is not lent. Plans are
-//! compared by what is told of them.
+//! Runs the proved engine and the model side by side, event by event on lent
+//! records and in runs by value, and compares all that is left: every field of
+//! the answer, of every record, of the station, and the part of the array that is
+//! not lent. Plans are compared by what is told of them.
 #![forbid(unsafe_code)]
 
 pub mod check;
+pub mod difference;
 pub mod engine;
 pub mod hostile;
 pub mod memory;
@@ -14,4 +15,4 @@ pub mod wire;
 pub mod wrapped;
 
 pub use engine::{Archive, Engine};
-pub use wire::{Board, Stepped};
+pub use wire::Board;

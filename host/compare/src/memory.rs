@@ -10,12 +10,14 @@ pub const EVENT: usize = 24;
 pub const STATION: usize = 16;
 pub const CALL: usize = 40;
 pub const BOARD: usize = 2584;
-pub const STEPPED: usize = 2648;
 pub const MADE: usize = 24;
 pub const READ: usize = 32;
 pub const RAN: usize = 2608;
 pub const ANSWER: usize = 64;
 pub const REHEARSED: usize = 6;
+
+/// Of `whipsail_answer` and a board behind it.
+pub const STEPPED: usize = ANSWER + BOARD;
 
 /// Of `whipsail_told` and so many records behind it.
 pub fn told(records: usize) -> usize {
@@ -223,6 +225,7 @@ impl Reader<'_> {
         }
     }
 
+    /// The answer, and the board behind it.
     pub fn stepped(&mut self) -> Stepped {
         Stepped {
             answer: self.answer(),

@@ -41,6 +41,7 @@ pub struct Answer {
     pub counter: u8,
 }
 
+/// What one event leaves of a board whose records are lent in place.
 #[derive(Clone, Debug, PartialEq, Eq)]
 pub struct Stepped {
     pub answer: Answer,
@@ -54,6 +55,32 @@ pub struct Ran {
     pub refused: u64,
     pub cut: u64,
     pub board: Board,
+}
+
+/// What a list of events leaves of a board in both ways: each event on lent
+/// records, and all of them as one run by value.
+#[derive(Clone, Debug, PartialEq, Eq)]
+pub struct Played {
+    /// None of a board whose table does not fit its array.
+    pub steps: Vec<Stepped>,
+    pub ran: Ran,
+}
+
+impl Played {
+    /// Of a list whose events leave this, one after the other.
+    pub fn of(start: &Board, mut steps: Vec<Stepped>) -> Played {
+        let done = steps.iter().filter(|step| step.answer.code == 0).count() as u64;
+        let ran = Ran {
+            done,
+            refused: steps.len() as u64 - done,
+            cut: 0,
+            board: steps.last().map_or(start, |last| &last.board).clone(),
+        };
+        if !start.fits() {
+            steps.clear();
+        }
+        Played { steps, ran }
+    }
 }
 
 /// What the library hands back of a plan.
@@ -88,12 +115,17 @@ impl Board {
         }
     }
 
+    /// Whether the table stands in the array: then its records can be lent.
+    pub fn fits(&self) -> bool {
+        self.len <= MOST_RECORDS as u64
+    }
+
     /// The table that is lent. Too long a length lends one record too many:
     /// the model refuses that as it would refuse more.
     pub fn lent(&self) -> Vec<Record> {
-        match usize::try_from(self.len) {
-            Ok(len) if len <= MOST_RECORDS => self.calls[..len].to_vec(),
-            _ => [&self.calls[..], &[Record::default()]].concat(),
+        match self.fits() {
+            true => self.calls[..self.len as usize].to_vec(),
+            false => [&self.calls[..], &[Record::default()]].concat(),
         }
     }
 

@@ -1,4 +1,5 @@
-//! Single events on boards by value, sound or not, with any station.
+//! Single events on boards, sound or not, with any station: each on the board's
+//! records in place, where it has so many, and as a run of one event by value.
 #![forbid(unsafe_code)]
 
 use compare::check::{first_seed, Comparison, Counts};

@@ -16,7 +16,7 @@ fn events(said: &str) -> Vec<&str> {
     said.lines()
         .skip(1)
         .filter(|line| !line.starts_with('#'))
-        .take_while(|line| !line.starts_with("at event"))
+        .take_while(|line| !line.starts_with("at "))
         .collect()
 }
 
@@ -135,6 +135,30 @@ fn one_sentence_of_soundness() {
     assert_eq!(events(&said).len(), 1, "{said}");
     let records = said.lines().filter(|line| line.contains("Record {"));
     assert_eq!(records.count(), 1, "{said}");
+}
+
+/// Takes the first 64 records of a table that is too long: none such can be lent
+/// on a board, so that its run alone tells.
+#[test]
+fn a_board_that_is_too_long() {
+    let wrong = |table: &mut [Record], station: &mut Station, event: &Event| {
+        let len = table.len().min(MOST_RECORDS);
+        step(&mut table[..len], station, event)
+    };
+    let comparison = Comparison::new(Archive::Native, &wrong);
+    let clock = Event {
+        kind: CLOCK,
+        ..Event::default()
+    };
+    for len in hostile::TOO_LONG {
+        let board = Board {
+            len,
+            ..Board::panel()
+        };
+        let said = comparison.cases(&[(board, clock)]);
+        let said = said.expect_err("it is found");
+        assert!(said.contains("at the end of a run, event 0"), "{said}");
+    }
 }
 
 #[test]

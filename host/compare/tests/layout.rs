@@ -1,7 +1,7 @@
 //! What `whipsail.h` says of its structs is what the library was built with.
 //! Three sources are held to each other: the header, as a C program prints it
 //! (`host/c/layout.c`); the structs of the crates, laid out by C's rules; and the
-//! compiled module (`target/native/whipsail.ll`), which has no field names but
+//! compiled modules (`target/native/CRATE.ll`), which have no field names but
 //! the offset and width of each store, and the sizes that functions take and
 //! hand back. That each field means what its name says is for the other tests.
 #![forbid(unsafe_code)]
@@ -10,7 +10,6 @@ use compare::engine::host;
 use compare::Archive;
 use std::collections::{BTreeMap, BTreeSet};
 use std::fs;
-use std::path::Path;
 
 /// A field's name, offset and size.
 type Field = (String, usize, usize);
@@ -38,7 +37,7 @@ fn header(archive: Archive) -> BTreeMap<String, Layout> {
             structs.insert(current.clone(), (number(1), Vec::new()));
         }
     }
-    assert_eq!(structs.len(), 15, "{structs:?}");
+    assert_eq!(structs.len(), 14, "{structs:?}");
     structs
 }
 
@@ -114,10 +113,13 @@ fn the_header_has_the_structs_of_the_crates() {
     }
 }
 
-/// The text of each function of the module.
-fn module() -> BTreeMap<String, String> {
-    let path = host("../target/native/whipsail.ll");
-    let text = fs::read_to_string(Path::new(&path)).expect("host/lib leaves the module");
+/// The crates of which the archive has a module each.
+const MODULES: [&str; 2] = ["whipsail", "whipsail_runs"];
+
+/// The name and the text of each function of a crate's module.
+fn module(name: &str) -> BTreeMap<String, String> {
+    let path = host(&format!("../target/native/{name}.ll"));
+    let text = fs::read_to_string(path).expect("host/lib leaves the module");
     let mut functions = BTreeMap::new();
     for part in text.split("\ndefine ").skip(1) {
         let (body, _) = part.split_once("\n}").expect("a function's end");
@@ -211,8 +213,8 @@ fn touches_each(places: &Places, fields: &Places) -> bool {
 }
 
 #[test]
-fn the_module_has_the_fields_of_the_header() {
-    let functions = module();
+fn the_modules_have_the_fields_of_the_header() {
+    let functions: Vec<(String, String)> = MODULES.into_iter().flat_map(module).collect();
     for (name, (size, fields)) in header(Archive::Native) {
         let expected: Places = fields.iter().map(|&(_, at, size)| (at, size)).collect();
         let place = PLACES.iter().find(|(of, _)| *of == name);
@@ -232,38 +234,43 @@ fn the_module_has_the_fields_of_the_header() {
     }
 }
 
+/// The functions that each module exports, with the structs that they take and
+/// hand back by value.
+const ENTRIES: [(&str, &str, &[&str], &str); 7] = [
+    ("whipsail", "whipsail_fresh", &[], "made"),
+    ("whipsail", "whipsail_fresh_short", &[], "station"),
+    ("whipsail", "whipsail_lent_step", &["input"], "told"),
+    ("whipsail", "whipsail_event_at", &[], "read"),
+    ("whipsail", "whipsail_well_made", &["event"], ""),
+    ("whipsail", "whipsail_rehearse", &[], "rehearsed"),
+    ("whipsail_runs", "whipsail_run", &["board"], "ran"),
+];
+
 #[test]
-fn the_module_takes_and_hands_back_the_headers_sizes() {
-    let functions = module();
+fn the_modules_take_and_hand_back_the_headers_sizes() {
     let header = header(Archive::Native);
     let size = |name: &str| header[name].0;
-    let entries: [(&str, &[&str], &str); 8] = [
-        ("whipsail_fresh", &[], "made"),
-        ("whipsail_fresh_short", &[], "station"),
-        ("whipsail_lent_step", &["input"], "told"),
-        ("whipsail_step", &["board", "event"], "stepped"),
-        ("whipsail_run", &["board"], "ran"),
-        ("whipsail_event_at", &[], "read"),
-        ("whipsail_well_made", &["event"], ""),
-        ("whipsail_rehearse", &[], "rehearsed"),
-    ];
-    let exported = functions.keys().filter(|name| !name.contains("::"));
-    assert_eq!(exported.count(), entries.len());
-    for (name, taken, back) in entries {
-        let (signature, _) = functions[name].split_once('\n').expect("a body");
-        let sizes: Vec<usize> = signature
-            .split("byval([")
-            .skip(1)
-            .map(|rest| number_after(&format!(" {rest}"), " ").expect("a size"))
-            .collect();
-        let expected: Vec<usize> = taken.iter().map(|name| size(name)).collect();
-        assert_eq!(sizes, expected, "{name}");
-        let mut results = functions[&format!("whipsail::{name}")]
-            .lines()
-            .filter(|line| line.contains("memmove.p0.p0.i64(ptr %a0, "))
-            .filter_map(|line| number_after(line, ", i64 "));
-        if !back.is_empty() {
-            assert!(results.all(|found| found == size(back)), "{name}");
+    for module_name in MODULES {
+        let functions = module(module_name);
+        let entries = ENTRIES.iter().filter(|entry| entry.0 == module_name);
+        let exported = functions.keys().filter(|name| !name.contains("::"));
+        assert_eq!(exported.count(), entries.clone().count());
+        for (_, name, taken, back) in entries {
+            let (signature, _) = functions[*name].split_once('\n').expect("a body");
+            let sizes: Vec<usize> = signature
+                .split("byval([")
+                .skip(1)
+                .map(|rest| number_after(&format!(" {rest}"), " ").expect("a size"))
+                .collect();
+            let expected: Vec<usize> = taken.iter().map(|name| size(name)).collect();
+            assert_eq!(sizes, expected, "{name}");
+            let mut results = functions[&format!("{module_name}::{name}")]
+                .lines()
+                .filter(|line| line.contains("memmove.p0.p0.i64(ptr %a0, "))
+                .filter_map(|line| number_after(line, ", i64 "));
+            if !back.is_empty() {
+                assert!(results.all(|found| found == size(back)), "{name}");
+            }
         }
     }
 }

@@ -1,4 +1,5 @@
-//! Every profile of the model, from the panel's start and over lent starts.
+//! Every profile of the model, from the panel's start and over lent starts: event
+//! by event on a board's records in place, and in runs on the board by value.
 #![forbid(unsafe_code)]
 
 use compare::check::{first_seed, Comparison, Counts};

@@ -6,7 +6,7 @@
 
 use compare::check::{first_seed, Counts};
 use compare::memory::Reader;
-use compare::tables::{report, Laid};
+use compare::tables::{report, Laid, Told};
 use compare::wire::Answer;
 use compare::{hostile, wrapped, Archive, Engine};
 use model::codes::MOST_RECORDS;
@@ -80,6 +80,35 @@ fn every_edge_of_every_field() {
     }
     println!("edges: {counts:?}");
     assert!(counts.total() >= 200_000);
+}
+
+/// Lengths that are refused; the low bits of some would be a table's.
+#[test]
+fn tables_that_are_too_long() {
+    let lengths = [65, 66, 127, 128, 255, 256, 257, 300, 320, 321];
+    let longer = [65_535, 65_536, 65_537, 65_540, 65_600, 65_601];
+    let mut random = Random::new(first_seed());
+    let cases: Vec<Laid> = (0..20)
+        .flat_map(|round| match round {
+            0 => [&lengths[..], &longer].concat(),
+            _ => lengths.to_vec(),
+        })
+        .map(|length| Laid::new(hostile::long_table(&mut random, length)))
+        .collect();
+    let refused = |laid: &Laid, told: &Told| {
+        let count = laid.table.len();
+        assert_eq!(laid.fault(told, &step), None, "{count} records");
+        assert_eq!(told.answer.code, 1);
+    };
+    for laid in &cases {
+        refused(laid, &wrapped::lend(laid));
+    }
+    for &archive in Archive::all() {
+        let told = Engine::start(archive).lend(&cases);
+        for (laid, told) in cases.iter().zip(&told) {
+            refused(laid, told);
+        }
+    }
 }
 
 /// Lists on one table that stays where it is, so that each event meets what the

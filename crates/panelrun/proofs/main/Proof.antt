@@ -5,7 +5,7 @@ use mathlib.Core.Bool.{true}
 use mathlib.Core.Path.{_≡_, sym, _∙_}
 use native.Mathlib.Omega.{arith}
 use lib.ListN.{length}
-use Rattle.engine.specs.Board.{soundBoard}
+use Rattle.board.specs.Board.{soundBoard}
 use Rattle.panel.proofs.Begun.{start-sound}
 use Rattle.panelrun.proofs.main.Statement.{statement}
 use Rattle.panelrun.proofs.main.Tie as tie

@@ -1,7 +1,7 @@
 use Prim.Native.Nat.{_/_}
 use mathlib.Core.Path.{sym, _∙_}
 use lib.ListN.{length}
-use Rattle.engine.proofs.Steps.{tested-short}
+use Rattle.board.proofs.Boards.{tested-short}
 use Rattle.runs.proofs.Folds.{tested-once, never-sound}
 use Rattle.runs.proofs.run.Statement.{statement}
 use Rattle.runs.proofs.run.Tie as tie

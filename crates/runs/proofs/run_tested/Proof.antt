@@ -1,313 +1,192 @@
--- Each arm of the loop by the way through a step that it takes; the invariant is the run so far. Assumes nothing.
-use Prim.Native.Nat.{_≤_, _-_, _/_}
+-- Each arm of the loop by what becomes of the event; the invariant is the run so far. Assumes nothing.
+use Prim.Native.Nat.{_+_, _≤_, _<_, _-_, _/_}
+use mathlib.Core.Logic.{⊎-elim}
 use mathlib.Core.Path.{_≡_, refl, sym, ap, _∙_}
 use native.Mathlib.Omega.{arith}
+use borrow.Author.Needs.{needs}
 use lib.ListN.{length, getD, set}
 use Rattle.ground.proofs.Walks.{mapped-long}
 use Rattle.call.specs.Record.{freeCall}
-use Rattle.desk.specs.Desk.{never}
-use Rattle.engine.specs.Board.{stepSoundBoard}
-use Rattle.engine.specs.Beside.{desk, boardNow, Beside}
-use Rattle.engine.proofs.Beside.{beside-start, beside-soon, beside-passed, beside-next, may-flip}
-use Rattle.engine.proofs.Steps.{early-step, ill-step, opened-step, full-step, ended-step, idle-step, outside-step, refused-step, done-step}
-use Rattle.decide.proofs.Decisions.{room}
-use Rattle.runs.specs.Playing.{Playing}
+use Rattle.notes.specs.Notes.{never}
+use Rattle.turn.specs.declared.Seen.{Seen}
+use Rattle.board.specs.Board.{stepSoundBoard, within}
+use Rattle.board.proofs.Boards.{within-small, within-near}
+use Rattle.board.proofs.Beside.{notes, boardNow, Beside, beside-start, beside-soon, beside-next, may-flip}
+use Rattle.board.proofs.Steps.{turn-refused, turn-none, turn-there, turn-done}
 use Rattle.runs.proofs.Folds.{first-none}
-use Rattle.runs.proofs.Plays.{playing-refused, playing-idle, playing-done}
+use Rattle.runs.proofs.Playing.{Playing, playing-refused, playing-none, playing-done}
 use Rattle.runs.proofs.run_tested.Statement.{statement}
 use Rattle.runs.proofs.run_tested.Tie as tie
 
 abbrev Inv-loop : tie.InvT-loop
-Inv-loop events calls₀ last₀ next₀ limit len free₀ soon₀ dues₀ held₀ done₀ refused₀ n k₀ calls last next free soon dues held done refused k =
-    (k ≤ n)
-    × Playing (record { station = record { last = last₀; next = next₀; limit = limit }; len = len; calls = calls₀ }) events calls last next (desk free soon dues held) done refused k
+Inv-loop events calls₀ s₀ len free₀ soon₀ dues₀ held₀ done₀ refused₀ n k₀ calls s free soon dues held done refused k =
+    (k ≤ n) × Playing (record { station = s₀; len = len; calls = calls₀ }) events calls s (notes free soon dues held) done refused k
 
 abbrev μ-loop : tie.MeasureT-loop
-μ-loop events calls₀ last₀ next₀ limit len free₀ soon₀ dues₀ held₀ done₀ refused₀ n k₀ calls last next free soon dues held done refused k = n - k
+μ-loop events calls₀ s₀ len free₀ soon₀ dues₀ held₀ done₀ refused₀ n k₀ calls s free soon dues held done refused k = n - k
 
 loop-holds : tie.Need-loop-holds Inv-loop μ-loop
 loop-holds c =
-    let s = c .before .before .before .before .before in
+    let s = c .before .before .before .before .before .before in
     let b = s .args .b in
     let long : length (b .calls) ≡ 64 = search (mapped-long, s .good) in
     let beside = beside-start (b .len) (b .calls) (c .before .before .summed .result) (c .before .before .summed .ensures) long in
     (omega arith, record { beside = beside; count = refl; so-far = sym (first-none stepSoundBoard b (s .args .events .now)) })
 
-loop-again : tie.Need-loop-again Inv-loop μ-loop
-loop-again c =
-    let s = c .before .before .before .before .before .before .before .before .before in
-    let b = s .args .b in
-    let v = c .before .before .before .loop in
-    let w = (v .inv .1 .beside) in
-    let ev = c .before .event-at in
-    let e = ev .result in
-    let t = boardNow b (v .last) (v .next) (v .calls) in
-    (omega (arith, c .before .before .before .loop, c .before .before .loop-test, c .before .before .before .before .before .before .before .before .before .good, c .before .before .before .before .before .before .before .before .before .pre), playing-refused b (s .args .events .now) (v .calls) (v .last) (v .next) (desk (v .free) (v .soon) (v .dues) (v .held)) (v .done) (v .refused) (v .k) (v .inv .1) e (ev .ensures) 2 (λ z. omega arith) (early-step t e (c .if1 .taken)))
+place-on-requires : tie.Need-place-on-requires Inv-loop μ-loop
+place-on-requires c κs =
+    let w = c .before .before .before .loop .inv .1 .beside in
+    (w .wide, w .kept .bound)
 
-flip-requires : tie.Need-flip-requires Inv-loop μ-loop
-flip-requires c κs =
-    let s = c .before .before .before .before .before .before .before .before .before .before .before .before .before .before .before .before .before in
-    let b = s .args .b in
-    let v = c .before .before .before .before .before .before .before .before .before .before .before .loop in
-    let w = (v .inv .1 .beside) in
-    may-flip (b .len) (v .calls) (v .free) (v .soon) (v .dues) (v .held) (s .pre) w (c .before .before .before .before .lowest .result) (c .before .opened .result .call) (c .before .before .before .if4 .taken)
+mul-c : tie.Need-mul-c Inv-loop μ-loop
+mul-c c =
+    let wi = c .within in
+    let m : wi .result < 64 = rw (wi .ensures) (within-small _ _ (c .before .before .before .before .before .before .before .before .before .before .before .before .pre)) in
+    let w = c .before .before .before .before .before .loop .inv .1 .beside in
+    omega (arith, m, w .long, w .wide, w .broad)
 
-loop-again-2 : tie.Need-loop-again-2 Inv-loop μ-loop
-loop-again-2 c =
-    let s = c .before .before .before .before .before .before .before .before .before .before .before .before .before .before .before .before .before .before .before .before .before in
-    let b = s .args .b in
-    let v = c .before .before .before .before .before .before .before .before .before .before .before .before .before .before .before .loop in
-    let w = (v .inv .1 .beside) in
-    let ev = c .before .before .before .before .before .before .before .before .before .before .before .before .before .event-at in
-    let e = ev .result in
-    let t = boardNow b (v .last) (v .next) (v .calls) in
-    let d = (desk (v .free) (v .soon) (v .dues) (v .held)) in
-    let p = beside-passed t d e w (s .pre) (c .before .before .before .before .before .before .before .before .before .before .before .before .if1 .left) (sym (c .before .before .before .before .before .before .before .before .before .before .before .well-made .ensures) ∙ c .before .before .before .before .before .before .before .before .before .before .if2 .taken) in
-    (omega (arith, c .before .before .before .before .before .before .before .before .before .before .before .before .before .before .before .loop, c .before .before .before .before .before .before .before .before .before .before .before .before .before .before .loop-test, c .before .before .before .before .before .before .before .before .before .before .before .before .before .before .before .before .before .before .before .before .before .good, c .before .before .before .before .before .before .before .before .before .before .before .before .before .before .before .before .before .before .before .before .before .pre, c .before .before .before .before .before .before .before .if4), playing-done b (s .args .events .now) (v .calls) (v .last) (v .next) (desk (v .free) (v .soon) (v .dues) (v .held)) (v .done) (v .refused) (v .k) (v .inv .1) e (ev .ensures) (desk (c .before .before .before .flip .result) (c .before .sooner .result) (set (v .dues) (c .before .before .before .before .before .before .before .before .lowest .result) (c .before .before .quiet-until .result)) (set (v .held) (c .before .before .before .before .before .before .before .before .lowest .result) (c .held-by .result))) (c .before .before .before .before .before .before .before .before .lowest .result) (v .next) (c .before .before .before .before .before .opened .result) (beside-next (b .len) (v .calls) (v .free) (v .soon) (v .dues) (v .held) (s .pre) w (c .before .before .before .before .before .before .before .before .lowest .result) (c .before .before .before .flip .result) (c .before .sooner .result) (c .before .before .quiet-until .result) (c .held-by .result) (c .before .before .before .before .before .opened .result .call) (c .before .before .before .before .before .before .before .if4 .taken) (c .before .before .before .flip .ensures) (c .before .before .quiet-until .ensures) (c .before .sooner .ensures) (c .held-by .ensures)) (rw (c .before .before .before .before .before .opened .ensures) (opened-step t d e p (c .before .before .before .before .before .before .before .before .lowest .result) (c .before .before .before .before .before .before .before .before .lowest .ensures) (c .before .before .before .before .before .before .before .before .before .if3 .taken) (c .before .before .before .before .before .before .before .if4 .taken))))
-
-loop-again-3 : tie.Need-loop-again-3 Inv-loop μ-loop
-loop-again-3 c =
-    let s = c .before .before .before .before .before .before .before .before .before .before .before .before .before .before in
-    let b = s .args .b in
-    let v = c .before .before .before .before .before .before .before .before .loop in
-    let w = (v .inv .1 .beside) in
-    let ev = c .before .before .before .before .before .before .event-at in
-    let e = ev .result in
-    let t = boardNow b (v .last) (v .next) (v .calls) in
-    let d = (desk (v .free) (v .soon) (v .dues) (v .held)) in
-    let p = beside-passed t d e w (s .pre) (c .before .before .before .before .before .if1 .left) (sym (c .before .before .before .before .well-made .ensures) ∙ c .before .before .before .if2 .taken) in
-    (omega (arith, c .before .before .before .before .before .before .before .before .loop, c .before .before .before .before .before .before .before .loop-test, c .before .before .before .before .before .before .before .before .before .before .before .before .before .before .good, c .before .before .before .before .before .before .before .before .before .before .before .before .before .before .pre, c .if4), playing-refused b (s .args .events .now) (v .calls) (v .last) (v .next) (desk (v .free) (v .soon) (v .dues) (v .held)) (v .done) (v .refused) (v .k) (v .inv .1) e (ev .ensures) 8 (λ z. omega arith) (full-step t d e p (c .before .lowest .result) (c .before .lowest .ensures) (c .before .before .if3 .taken) (c .if4 .left)))
-
-refresh-requires : tie.Need-refresh-requires Inv-loop μ-loop
-refresh-requires c κs =
-    let s = c .before .before .before .before .before .before .before .before .before .before .before .before .before .before in
-    let b = s .args .b in
-    let v = c .before .before .before .before .before .before .before .before .loop in
-    let w = (v .inv .1 .beside) in
-    w .wide
-
-due-at-requires : tie.Need-due-at-requires Inv-loop μ-loop
-due-at-requires c κs =
-    let s = c .before .before .before .before .before .before .before .before .before .before .before .before .before .before .before .before in
-    let b = s .args .b in
-    let v = c .before .before .before .before .before .before .before .before .before .before .loop in
-    let w = (v .inv .1 .beside) in
-    let time = c .before .before .before .before .before .before .before .before .event-at .result .time in
-    let u = beside-soon (b .len) (v .calls) (v .free) (v .soon) (v .dues) (v .held) w (c .before .refresh .result) time (c .before .refresh .ensures) in
-    (w .wide, u .kept .bound)
-
-flip-requires-2 : tie.Need-flip-requires-2 Inv-loop μ-loop
-flip-requires-2 c κs =
-    let s = c .before .before .before .before .before .before .before .before .before .before .before .before .before .before .before .before .before .before .before .before .before in
-    let b = s .args .b in
-    let v = c .before .before .before .before .before .before .before .before .before .before .before .before .before .before .before .loop in
-    let w = (v .inv .1 .beside) in
-    may-flip (b .len) (v .calls) (v .free) (v .soon) (v .dues) (v .held) (s .pre) w (c .before .before .before .before .due-at .result) (c .before .expired .result .call) (c .before .before .before .if6 .taken)
-
-loop-again-4 : tie.Need-loop-again-4 Inv-loop μ-loop
-loop-again-4 c =
-    let s = c .before .before .before .before .before .before .before .before .before .before .before .before .before .before .before .before .before .before .before .before .before .before .before .before .before in
-    let b = s .args .b in
-    let v = c .before .before .before .before .before .before .before .before .before .before .before .before .before .before .before .before .before .before .before .loop in
-    let w = (v .inv .1 .beside) in
-    let ev = c .before .before .before .before .before .before .before .before .before .before .before .before .before .before .before .before .before .event-at in
-    let e = ev .result in
-    let t = boardNow b (v .last) (v .next) (v .calls) in
-    let u = beside-soon (b .len) (v .calls) (v .free) (v .soon) (v .dues) (v .held) w (c .before .before .before .before .before .before .before .before .before .before .refresh .result) (e .time) (c .before .before .before .before .before .before .before .before .before .before .refresh .ensures) in
-    let d = desk (v .free) (c .before .before .before .before .before .before .before .before .before .before .refresh .result) (v .dues) (v .held) in
-    let p = beside-passed t d e u (s .pre) (c .before .before .before .before .before .before .before .before .before .before .before .before .before .before .before .before .if1 .left) (sym (c .before .before .before .before .before .before .before .before .before .before .before .before .before .before .before .well-made .ensures) ∙ c .before .before .before .before .before .before .before .before .before .before .before .before .before .before .if2 .taken) in
-    let late : e .time ≤ never = omega (arith, ev .ok) in
-    (omega (arith, c .before .before .before .before .before .before .before .before .before .before .before .before .before .before .before .before .before .before .before .loop, c .before .before .before .before .before .before .before .before .before .before .before .before .before .before .before .before .before .before .loop-test, c .before .before .before .before .before .before .before .before .before .before .before .before .before .before .before .before .before .before .before .before .before .before .before .before .before .good, c .before .before .before .before .before .before .before .before .before .before .before .before .before .before .before .before .before .before .before .before .before .before .before .before .before .pre, c .before .before .before .before .before .before .before .if6), playing-done b (s .args .events .now) (v .calls) (v .last) (v .next) (desk (v .free) (v .soon) (v .dues) (v .held)) (v .done) (v .refused) (v .k) (v .inv .1) e (ev .ensures) (desk (c .before .before .before .flip2 .result) (c .before .sooner2 .result) (set (v .dues) (c .before .before .before .before .before .before .before .before .due-at .result) (c .before .before .quiet-until2 .result)) (set (v .held) (c .before .before .before .before .before .before .before .before .due-at .result) (c .held-by2 .result))) (c .before .before .before .before .before .before .before .before .due-at .result) (v .next) (c .before .before .before .before .before .expired .result) (beside-next (b .len) (v .calls) (v .free) (c .before .before .before .before .before .before .before .before .before .before .refresh .result) (v .dues) (v .held) (s .pre) u (c .before .before .before .before .before .before .before .before .due-at .result) (c .before .before .before .flip2 .result) (c .before .sooner2 .result) (c .before .before .quiet-until2 .result) (c .held-by2 .result) (c .before .before .before .before .before .expired .result .call) (c .before .before .before .before .before .before .before .if6 .taken) (c .before .before .before .flip2 .ensures) (c .before .before .quiet-until2 .ensures) (c .before .sooner2 .ensures) (c .held-by2 .ensures)) (rw (c .before .before .before .before .before .expired .ensures) (ended-step t d e p (c .before .before .before .before .before .before .before .before .due-at .result) late (c .before .before .before .before .before .before .before .before .due-at .ensures) (c .before .before .before .before .before .before .before .before .before .before .before .before .if5 .taken) (c .before .before .before .before .before .before .before .if6 .taken))))
-
-loop-again-5 : tie.Need-loop-again-5 Inv-loop μ-loop
-loop-again-5 c =
-    let s = c .before .before .before .before .before .before .before .before .before .before .before .before .before .before .before .before .before .before in
-    let b = s .args .b in
-    let v = c .before .before .before .before .before .before .before .before .before .before .before .before .loop in
-    let w = (v .inv .1 .beside) in
-    let ev = c .before .before .before .before .before .before .before .before .before .before .event-at in
-    let e = ev .result in
-    let t = boardNow b (v .last) (v .next) (v .calls) in
-    let u = beside-soon (b .len) (v .calls) (v .free) (v .soon) (v .dues) (v .held) w (c .before .before .before .refresh .result) (e .time) (c .before .before .before .refresh .ensures) in
-    let d = desk (v .free) (c .before .before .before .refresh .result) (v .dues) (v .held) in
-    let p = beside-passed t d e u (s .pre) (c .before .before .before .before .before .before .before .before .before .if1 .left) (sym (c .before .before .before .before .before .before .before .before .well-made .ensures) ∙ c .before .before .before .before .before .before .before .if2 .taken) in
-    let late : e .time ≤ never = omega (arith, ev .ok) in
-    (omega (arith, c .before .before .before .before .before .before .before .before .before .before .before .before .loop, c .before .before .before .before .before .before .before .before .before .before .before .loop-test, c .before .before .before .before .before .before .before .before .before .before .before .before .before .before .before .before .before .before .good, c .before .before .before .before .before .before .before .before .before .before .before .before .before .before .before .before .before .before .pre, c .if6), playing-idle b (s .args .events .now) (v .calls) (v .last) (v .next) (desk (v .free) (v .soon) (v .dues) (v .held)) (v .done) (v .refused) (v .k) (v .inv .1) e (ev .ensures) d u (idle-step t d e p (c .before .due-at .result) late (c .before .due-at .ensures) (c .before .before .before .before .before .if5 .taken) (c .if6 .left)))
+array-copy-out-c : tie.Need-array-copy-out-c Inv-loop μ-loop
+array-copy-out-c c =
+    let wi = c .within in
+    let m : wi .result < 64 = rw (wi .ensures) (within-small _ _ (c .before .before .before .before .before .before .before .before .before .before .before .before .pre)) in
+    let w = c .before .before .before .before .before .loop .inv .1 .beside in
+    omega (arith, m, w .long, w .wide, w .broad)
 
 identifier-in-requires : tie.Need-identifier-in-requires Inv-loop μ-loop
 identifier-in-requires c κs =
-    let s = c .before .before .before .before .before .before .before .before .before .before .before .before .before .before .before .before .before .before .before in
-    let b = s .args .b in
+    c .before .before .before .before .before .before .before .loop .inv .1 .beside .broad
+
+add-refused : tie.Need-add-refused Inv-loop μ-loop
+add-refused c = omega (arith, c .before .before .before .before .before .before .before .before .before .before .before .loop, c .before .before .before .before .before .before .before .before .before .before .loop-test, c .before .before .before .before .before .before .before .before .before .before .before .before .before .before .before .before .before .before .good, c .before .before .before .before .before .before .before .before .before .before .before .before .before .before .before .before .before .before .pre)
+
+refresh-requires : tie.Need-refresh-requires Inv-loop μ-loop
+refresh-requires c κs =
+    c .before .before .before .before .before .before .before .before .before .before .before .before .loop .inv .1 .beside .wide
+
+add-done : tie.Need-add-done Inv-loop μ-loop
+add-done c = omega (arith, c .before .before .before .before .before .before .before .before .before .before .before .before .before .before .loop, c .before .before .before .before .before .before .before .before .before .before .before .before .before .loop-test, c .before .before .before .before .before .before .before .before .before .before .before .before .before .before .before .before .before .before .before .before .before .good, c .before .before .before .before .before .before .before .before .before .before .before .before .before .before .before .before .before .before .before .before .before .pre)
+
+mul-calls : tie.Need-mul-calls Inv-loop μ-loop
+mul-calls c =
+    let wi = c .before .before .before .before .before .before .before .before .within in
+    let m : wi .result < 64 = rw (wi .ensures) (within-small _ _ (c .before .before .before .before .before .before .before .before .before .before .before .before .before .before .before .before .before .before .before .before .pre)) in
+    let w = c .before .before .before .before .before .before .before .before .before .before .before .before .before .loop .inv .1 .beside in
+    omega (arith, m, w .long, w .wide, w .broad)
+
+array-set-from-calls : tie.Need-array-set-from-calls Inv-loop μ-loop
+array-set-from-calls c =
+    let wi = c .before .before .before .before .before .before .before .before .within in
+    let m : wi .result < 64 = rw (wi .ensures) (within-small _ _ (c .before .before .before .before .before .before .before .before .before .before .before .before .before .before .before .before .before .before .before .before .pre)) in
+    let w = c .before .before .before .before .before .before .before .before .before .before .before .before .before .loop .inv .1 .beside in
+    omega (arith, m, w .long, w .wide, w .broad)
+
+flip-requires : tie.Need-flip-requires Inv-loop μ-loop
+flip-requires c κs =
+    let a = c .before .before .before .before .before .before .before .before .before .before .before .before .before .before .before .before .before .before .before .before in
+    let b = a .args .b in
     let v = c .before .before .before .before .before .before .before .before .before .before .before .before .before .loop in
-    let w = (v .inv .1 .beside) in
-    w .broad
-
-act-requires : tie.Need-act-requires Inv-loop μ-loop
-act-requires c κs =
-    let s = c .before .before .before .before .before .before .before .before .before .before .before .before .before .before .before .before .before .before .before .before in
-    let b = s .args .b in
-    let v = c .before .before .before .before .before .before .before .before .before .before .before .before .before .before .loop in
-    let w = (v .inv .1 .beside) in
-    let ev = c .before .before .before .before .before .before .before .before .before .before .before .before .event-at in
+    let w = v .inv .1 in
+    let ev = c .before .before .before .before .before .before .before .before .before .before .before .event-at in
     let e = ev .result in
-    let t = boardNow b (v .last) (v .next) (v .calls) in
-    λ k. room (t .station) (getD (v .calls) (e .call) freeCall) e (c .before .before .before .named-refusal .result) (c .before .before .before .named-refusal .ensures) (c .before .before .if8 .taken) (omega (arith, s .good)) k
+    let pl = c .before .before .before .before .before .before .before .before .before .place-on in
+    let wi = c .before .before .before .before .before .before .before .before .within in
+    let id = c .before .before .before .before .before .identifier-in in
+    let t = c .before .before .before .before .turned in
+    let d = notes (v .free) (v .soon) (v .dues) (v .held) in
+    let late : e .time ≤ never = omega (arith, ev .ok) in
+    let seen : Seen = record { len = b .len; place = pl .result; identifier = id .result; call = getD (v .calls) (wi .result) freeCall } in
+    let near : pl .result < b .len → wi .result ≡ pl .result = λ l. wi .ensures ∙ within-near (pl .result) (b .len) l in
+    let there : pl .result < b .len → seen .call ≡ getD (v .calls) (pl .result) freeCall = λ l. ap (λ i. getD (v .calls) i freeCall) (near l) in
+    let known = c .before .before .t .given in
+    let l = turn-there (boardNow b (v .s) (v .calls)) d e (a .pre) (w .beside) late seen refl (pl .ensures) there (id .ensures) (t .result) (t .ensures) (known .0 .0) (known .1) in
+    rw (near l) (may-flip (b .len) (v .calls) (v .free) (v .soon) (v .dues) (v .held) (a .pre) (w .beside) (pl .result) (known .0 .0 .call) l)
 
-flip-requires-3 : tie.Need-flip-requires-3 Inv-loop μ-loop
-flip-requires-3 c κs =
-    let s = c .before .before .before .before .before .before .before .before .before .before .before .before .before .before .before .before .before .before .before .before .before .before in
-    let b = s .args .b in
-    let v = c .before .before .before .before .before .before .before .before .before .before .before .before .before .before .before .before .loop in
-    let w = (v .inv .1 .beside) in
-    may-flip (b .len) (v .calls) (v .free) (v .soon) (v .dues) (v .held) (s .pre) w (c .before .before .before .before .before .before .before .before .before .before .before .before .before .before .event-at .result .call) (c .before .act .result .call) (c .before .before .before .before .before .before .before .if7 .taken)
+mul-dues : tie.Need-mul-dues Inv-loop μ-loop
+mul-dues c =
+    let wi = c .before .before .before .before .before .before .before .before .before .before .within in
+    let m : wi .result < 64 = rw (wi .ensures) (within-small _ _ (c .before .before .before .before .before .before .before .before .before .before .before .before .before .before .before .before .before .before .before .before .before .before .pre)) in
+    let w = c .before .before .before .before .before .before .before .before .before .before .before .before .before .before .before .loop .inv .1 .beside in
+    omega (arith, m, w .long, w .wide, w .broad)
 
-loop-again-6 : tie.Need-loop-again-6 Inv-loop μ-loop
-loop-again-6 c =
-    let s = c .before .before .before .before .before .before .before .before .before .before .before .before .before .before .before .before .before .before .before .before .before .before .before .before .before .before .before in
-    let b = s .args .b in
-    let v = c .before .before .before .before .before .before .before .before .before .before .before .before .before .before .before .before .before .before .before .before .before .loop in
-    let w = (v .inv .1 .beside) in
-    let ev = c .before .before .before .before .before .before .before .before .before .before .before .before .before .before .before .before .before .before .before .event-at in
+array-write-dues : tie.Need-array-write-dues Inv-loop μ-loop
+array-write-dues c =
+    let wi = c .before .before .before .before .before .before .before .before .before .before .within in
+    let m : wi .result < 64 = rw (wi .ensures) (within-small _ _ (c .before .before .before .before .before .before .before .before .before .before .before .before .before .before .before .before .before .before .before .before .before .before .pre)) in
+    let w = c .before .before .before .before .before .before .before .before .before .before .before .before .before .before .before .loop .inv .1 .beside in
+    omega (arith, m, w .long, w .wide, w .broad)
+
+mul-held : tie.Need-mul-held Inv-loop μ-loop
+mul-held c =
+    let wi = c .before .before .before .before .before .before .before .before .before .before .before .before .within in
+    let m : wi .result < 64 = rw (wi .ensures) (within-small _ _ (c .before .before .before .before .before .before .before .before .before .before .before .before .before .before .before .before .before .before .before .before .before .before .before .before .pre)) in
+    let w = c .before .before .before .before .before .before .before .before .before .before .before .before .before .before .before .before .before .loop .inv .1 .beside in
+    omega (arith, m, w .long, w .wide, w .broad)
+
+array-write-held : tie.Need-array-write-held Inv-loop μ-loop
+array-write-held c =
+    let wi = c .before .before .before .before .before .before .before .before .before .before .before .before .within in
+    let m : wi .result < 64 = rw (wi .ensures) (within-small _ _ (c .before .before .before .before .before .before .before .before .before .before .before .before .before .before .before .before .before .before .before .before .before .before .before .before .pre)) in
+    let w = c .before .before .before .before .before .before .before .before .before .before .before .before .before .before .before .before .before .loop .inv .1 .beside in
+    omega (arith, m, w .long, w .wide, w .broad)
+
+add-done-2 : tie.Need-add-done-2 Inv-loop μ-loop
+add-done-2 c = omega (arith, c .before .before .before .before .before .before .before .before .before .before .before .before .before .before .before .before .before .before .loop, c .before .before .before .before .before .before .before .before .before .before .before .before .before .before .before .before .before .loop-test, c .before .before .before .before .before .before .before .before .before .before .before .before .before .before .before .before .before .before .before .before .before .before .before .before .before .good, c .before .before .before .before .before .before .before .before .before .before .before .before .before .before .before .before .before .before .before .before .before .before .before .before .before .pre)
+
+add-k : tie.Need-add-k Inv-loop μ-loop
+add-k c = omega (arith, c .before .before .before .before .before .before .before .before .before .before .loop, c .before .before .before .before .before .before .before .before .before .loop-test, c .before .before .before .before .before .before .before .before .before .before .before .before .before .before .before .before .before .good, c .before .before .before .before .before .before .before .before .before .before .before .before .before .before .before .before .before .pre)
+
+loop-less : tie.Need-loop-less Inv-loop μ-loop
+loop-less c = omega (arith, c .before .before .before .before .before .before .before .before .before .before .loop, c .before .before .before .before .before .before .before .before .before .loop-test, c .before .before .before .before .before .before .before .before .before .before .before .before .before .before .before .before .before .good, c .before .before .before .before .before .before .before .before .before .before .before .before .before .before .before .before .before .pre)
+
+loop-again : tie.Need-loop-again Inv-loop μ-loop
+loop-again c =
+    let a = c .before .before .before .before .before .before .before .before .before .before .before .before .before .before .before .before .before in
+    let b = a .args .b in
+    let v = c .before .before .before .before .before .before .before .before .before .before .loop in
+    let w = v .inv .1 in
+    let ev = c .before .before .before .before .before .before .before .before .event-at in
     let e = ev .result in
-    let t = boardNow b (v .last) (v .next) (v .calls) in
-    let d = (desk (v .free) (v .soon) (v .dues) (v .held)) in
-    let p = beside-passed t d e w (s .pre) (c .before .before .before .before .before .before .before .before .before .before .before .before .before .before .before .before .before .before .if1 .left) (sym (c .before .before .before .before .before .before .before .before .before .before .before .before .before .before .before .before .before .well-made .ensures) ∙ c .before .before .before .before .before .before .before .before .before .before .before .before .before .before .before .before .if2 .taken) in
-    (omega (arith, c .before .before .before .before .before .before .before .before .before .before .before .before .before .before .before .before .before .before .before .before .before .loop, c .before .before .before .before .before .before .before .before .before .before .before .before .before .before .before .before .before .before .before .before .loop-test, c .before .before .before .before .before .before .before .before .before .before .before .before .before .before .before .before .before .before .before .before .before .before .before .before .before .before .before .good, c .before .before .before .before .before .before .before .before .before .before .before .before .before .before .before .before .before .before .before .before .before .before .before .before .before .before .before .pre, c .before .before .before .before .before .before .before .before .before .before .before .before .if7), playing-done b (s .args .events .now) (v .calls) (v .last) (v .next) (desk (v .free) (v .soon) (v .dues) (v .held)) (v .done) (v .refused) (v .k) (v .inv .1) e (ev .ensures) (desk (c .before .before .before .before .flip3 .result) (c .before .before .sooner3 .result) (set (v .dues) (e .call) (c .before .before .before .quiet-until3 .result)) (set (v .held) (e .call) (c .before .held-by3 .result))) (e .call) (c .next-with .result) (c .before .before .before .before .before .before .act .result) (beside-next (b .len) (v .calls) (v .free) (v .soon) (v .dues) (v .held) (s .pre) w (e .call) (c .before .before .before .before .flip3 .result) (c .before .before .sooner3 .result) (c .before .before .before .quiet-until3 .result) (c .before .held-by3 .result) (c .before .before .before .before .before .before .act .result .call) (c .before .before .before .before .before .before .before .before .before .before .before .before .if7 .taken) (c .before .before .before .before .flip3 .ensures) (c .before .before .before .quiet-until3 .ensures) (c .before .before .sooner3 .ensures) (c .before .held-by3 .ensures)) (rw (c .next-with .ensures, c .before .before .before .before .before .before .act .ensures) (done-step t d e p (c .before .before .before .before .before .before .before .before .before .before .before .before .before .before .before .if3 .left) (c .before .before .before .before .before .before .before .before .before .before .before .before .before .before .if5 .left) (c .before .before .before .before .before .before .before .before .before .before .before .before .if7 .taken) (c .before .before .before .before .before .before .before .before .before .before .named-refusal .result) (c .before .before .before .before .before .before .before .identifier-in .result) (c .before .before .before .before .before .before .before .before .before .before .named-refusal .ensures) (c .before .before .before .before .before .before .before .before .before .if8 .taken) (c .before .before .before .before .before .before .before .identifier-in .ensures))))
-
-loop-again-7 : tie.Need-loop-again-7 Inv-loop μ-loop
-loop-again-7 c =
-    let s = c .before .before .before .before .before .before .before .before .before .before .before .before .before .before .before .before .before .before in
-    let b = s .args .b in
-    let v = c .before .before .before .before .before .before .before .before .before .before .before .before .loop in
-    let w = (v .inv .1 .beside) in
-    let ev = c .before .before .before .before .before .before .before .before .before .before .event-at in
-    let e = ev .result in
-    let t = boardNow b (v .last) (v .next) (v .calls) in
-    let d = (desk (v .free) (v .soon) (v .dues) (v .held)) in
-    let p = beside-passed t d e w (s .pre) (c .before .before .before .before .before .before .before .before .before .if1 .left) (sym (c .before .before .before .before .before .before .before .before .well-made .ensures) ∙ c .before .before .before .before .before .before .before .if2 .taken) in
-    (omega (arith, c .before .before .before .before .before .before .before .before .before .before .before .before .loop, c .before .before .before .before .before .before .before .before .before .before .before .loop-test, c .before .before .before .before .before .before .before .before .before .before .before .before .before .before .before .before .before .before .good, c .before .before .before .before .before .before .before .before .before .before .before .before .before .before .before .before .before .before .pre, c .before .before .before .if7), playing-refused b (s .args .events .now) (v .calls) (v .last) (v .next) (desk (v .free) (v .soon) (v .dues) (v .held)) (v .done) (v .refused) (v .k) (v .inv .1) e (ev .ensures) (c .before .named-refusal .result) (c .if8 .left) (refused-step t d e p (c .before .before .before .before .before .before .if3 .left) (c .before .before .before .before .before .if5 .left) (c .before .before .before .if7 .taken) (c .before .named-refusal .result) (c .before .named-refusal .ensures) (c .if8 .left)))
-
-loop-again-8 : tie.Need-loop-again-8 Inv-loop μ-loop
-loop-again-8 c =
-    let s = c .before .before .before .before .before .before .before .before .before .before .before .before .before .before .before in
-    let b = s .args .b in
-    let v = c .before .before .before .before .before .before .before .before .before .loop in
-    let w = (v .inv .1 .beside) in
-    let ev = c .before .before .before .before .before .before .before .event-at in
-    let e = ev .result in
-    let t = boardNow b (v .last) (v .next) (v .calls) in
-    let d = (desk (v .free) (v .soon) (v .dues) (v .held)) in
-    let p = beside-passed t d e w (s .pre) (c .before .before .before .before .before .before .if1 .left) (sym (c .before .before .before .before .before .well-made .ensures) ∙ c .before .before .before .before .if2 .taken) in
-    (omega (arith, c .before .before .before .before .before .before .before .before .before .loop, c .before .before .before .before .before .before .before .before .loop-test, c .before .before .before .before .before .before .before .before .before .before .before .before .before .before .before .good, c .before .before .before .before .before .before .before .before .before .before .before .before .before .before .before .pre, c .if7), playing-refused b (s .args .events .now) (v .calls) (v .last) (v .next) (desk (v .free) (v .soon) (v .dues) (v .held)) (v .done) (v .refused) (v .k) (v .inv .1) e (ev .ensures) 4 (λ z. omega arith) (outside-step t d e p (c .before .before .before .if3 .left) (c .before .before .if5 .left) (c .if7 .left)))
-
-loop-again-9 : tie.Need-loop-again-9 Inv-loop μ-loop
-loop-again-9 c =
-    let s = c .before .before .before .before .before .before .before .before .before .before .before in
-    let b = s .args .b in
-    let v = c .before .before .before .before .before .loop in
-    let w = (v .inv .1 .beside) in
-    let ev = c .before .before .before .event-at in
-    let e = ev .result in
-    let t = boardNow b (v .last) (v .next) (v .calls) in
-    (omega (arith, c .before .before .before .before .before .loop, c .before .before .before .before .loop-test, c .before .before .before .before .before .before .before .before .before .before .before .good, c .before .before .before .before .before .before .before .before .before .before .before .pre), playing-refused b (s .args .events .now) (v .calls) (v .last) (v .next) (desk (v .free) (v .soon) (v .dues) (v .held)) (v .done) (v .refused) (v .k) (v .inv .1) e (ev .ensures) 3 (λ z. omega arith) (ill-step t e (c .before .before .if1 .left) (sym (c .before .well-made .ensures) ∙ c .if2 .left)))
+    let pl = c .before .before .before .before .before .before .place-on in
+    let wi = c .before .before .before .before .before .within in
+    let id = c .before .before .identifier-in in
+    let t = c .before .turned in
+    let d = notes (v .free) (v .soon) (v .dues) (v .held) in
+    let late : e .time ≤ never = omega (arith, ev .ok) in
+    let seen : Seen = record { len = b .len; place = pl .result; identifier = id .result; call = getD (v .calls) (wi .result) freeCall } in
+    let near : pl .result < b .len → wi .result ≡ pl .result = λ l. wi .ensures ∙ within-near (pl .result) (b .len) l in
+    let there : pl .result < b .len → seen .call ≡ getD (v .calls) (pl .result) freeCall = λ l. ap (λ i. getD (v .calls) i freeCall) (near l) in
+    let more : v .k + 1 ≤ length (a .args .events .now) / 24 = omega (arith, v .inv .0, c .before .before .before .before .before .before .before .before .before .loop-test) in
+    ⊎-elim
+    (λ y.
+    let known = y .1 .given in
+    (more, rw (y .2, y .3, y .4, y .5, y .6, y .7, y .8, y .9) (playing-refused b (a .args .events .now) (v .calls) (v .s) d (v .done) (v .refused) (v .k) w e (ev .ensures) (known .0 .0) (turn-refused (boardNow b (v .s) (v .calls)) d e (a .pre) (w .beside) late seen refl (pl .ensures) there (id .ensures) (t .result) (t .ensures) (known .0 .0) (known .1)))))
+    (⊎-elim
+    (λ y.
+    let known = y .1 .given in
+    let soon = beside-soon (b .len) (v .calls) (v .free) (v .soon) (v .dues) (v .held) (w .beside) _ (e .time) (y .3 .ensures) in
+    (more, rw (y .5, y .6, y .7, y .8, y .9, y .10, y .11, y .12) (playing-none b (a .args .events .now) (v .calls) (v .s) d (v .done) (v .refused) (v .k) w e (ev .ensures) (notes (v .free) (y .3 .result) (v .dues) (v .held)) _ soon (rw (y .4 .ensures) (turn-none (boardNow b (v .s) (v .calls)) d e (a .pre) (w .beside) late seen refl (pl .ensures) there (id .ensures) (t .result) (t .ensures) (known .1))))))
+    (λ y.
+    let known = y .1 .given in
+    let x = known .0 .0 in
+    let l = turn-there (boardNow b (v .s) (v .calls)) d e (a .pre) (w .beside) late seen refl (pl .ensures) there (id .ensures) (t .result) (t .ensures) x (known .1) in
+    let i = near l in
+    let kept = beside-next (b .len) (v .calls) (v .free) (v .soon) (v .dues) (v .held) (a .pre) (w .beside) (wi .result) _ _ _ _ (x .call) (rw i l) (y .4 .ensures) (y .5 .ensures) (y .6 .ensures) (y .7 .ensures) in
+    (more, rw (y .9, y .10, y .11, y .12, y .13, y .14, y .15, y .16) (playing-done b (a .args .events .now) (v .calls) (v .s) d (v .done) (v .refused) (v .k) w e (ev .ensures) _ (wi .result) _ x kept (rw (y .8 .ensures, i) (turn-done (boardNow b (v .s) (v .calls)) d e (a .pre) (w .beside) late seen refl (pl .ensures) there (id .ensures) (t .result) (t .ensures) x (known .1)))))))
+    (c .match .came)
 
 returns : tie.Need-returns Inv-loop μ-loop
 returns c =
     let v = c .before .loop in
-    let e : v .k ≡ length (c .before .before .before .before .before .before .before .args .events .now) / 24 = omega arith in
+    let e : v .k ≡ length (c .before .before .before .before .before .before .before .before .args .events .now) / 24 = omega (arith, v .inv .0, c .loop-test) in
     rw e at (v .inv .1 .so-far)
 
 pub run-tested-spec : {M : Type 1} → statement M
 run-tested-spec =
     tie.close
     (tie.spec
-    Inv-loop
-    μ-loop
-    (λ c κs. omega arith)
-    loop-holds
-    (λ c. omega (arith, c .before .loop, c .loop-test, c .before .before .before .before .before .before .before .good, c .before .before .before .before .before .before .before .pre))
-    (λ c κs. omega (arith, c .before .loop, c .loop-test, c .before .before .before .before .before .before .before .good, c .before .before .before .before .before .before .before .pre))
-    (λ c. omega (arith, c .before .before .before .loop, c .before .before .loop-test, c .before .before .before .before .before .before .before .before .before .good, c .before .before .before .before .before .before .before .before .before .pre))
-    (λ c. omega (arith, c .before .before .before .loop, c .before .before .loop-test, c .before .before .before .before .before .before .before .before .before .good, c .before .before .before .before .before .before .before .before .before .pre))
-    (λ c. omega (arith, c .before .before .before .loop, c .before .before .loop-test, c .before .before .before .before .before .before .before .before .before .good, c .before .before .before .before .before .before .before .before .before .pre))
-    loop-again
-    (λ c κs. tt)
-    (λ c κs. tt)
-    (λ c. omega (arith, c .before .before .before .before .before .before .before .before .loop, c .before .before .before .before .before .before .before .loop-test, c .before .before .before .before .before .before .before .before .before .before .before .before .before .before .good, c .before .before .before .before .before .before .before .before .before .before .before .before .before .before .pre, c .if4))
-    (λ c. omega (arith, c .before .before .before .before .before .before .before .before .loop, c .before .before .before .before .before .before .before .loop-test, c .before .before .before .before .before .before .before .before .before .before .before .before .before .before .good, c .before .before .before .before .before .before .before .before .before .before .before .before .before .before .pre, c .if4))
-    (λ c κs. tt)
-    (λ c. omega (arith, c .before .before .before .before .before .before .before .before .before .before .before .loop, c .before .before .before .before .before .before .before .before .before .before .loop-test, c .before .before .before .before .before .before .before .before .before .before .before .before .before .before .before .before .before .good, c .before .before .before .before .before .before .before .before .before .before .before .before .before .before .before .before .before .pre, c .before .before .before .if4))
-    (λ c. omega (arith, c .before .before .before .before .before .before .before .before .before .before .before .loop, c .before .before .before .before .before .before .before .before .before .before .loop-test, c .before .before .before .before .before .before .before .before .before .before .before .before .before .before .before .before .before .good, c .before .before .before .before .before .before .before .before .before .before .before .before .before .before .before .before .before .pre, c .before .before .before .if4))
-    flip-requires
-    (λ c κs. tt)
-    (λ c. omega (arith, c .before .before .before .before .before .before .before .before .before .before .before .before .before .loop, c .before .before .before .before .before .before .before .before .before .before .before .before .loop-test, c .before .before .before .before .before .before .before .before .before .before .before .before .before .before .before .before .before .before .before .good, c .before .before .before .before .before .before .before .before .before .before .before .before .before .before .before .before .before .before .before .pre, c .before .before .before .before .before .if4))
-    (λ c. omega (arith, c .before .before .before .before .before .before .before .before .before .before .before .before .before .loop, c .before .before .before .before .before .before .before .before .before .before .before .before .loop-test, c .before .before .before .before .before .before .before .before .before .before .before .before .before .before .before .before .before .before .before .good, c .before .before .before .before .before .before .before .before .before .before .before .before .before .before .before .before .before .before .before .pre, c .before .before .before .before .before .if4))
-    (λ c κs. tt)
-    (λ c κs. tt)
-    (λ c. omega (arith, c .before .before .before .before .before .before .before .before .before .before .before .before .before .before .before .loop, c .before .before .before .before .before .before .before .before .before .before .before .before .before .before .loop-test, c .before .before .before .before .before .before .before .before .before .before .before .before .before .before .before .before .before .before .before .before .before .good, c .before .before .before .before .before .before .before .before .before .before .before .before .before .before .before .before .before .before .before .before .before .pre, c .before .before .before .before .before .before .before .if4))
-    (λ c. omega (arith, c .before .before .before .before .before .before .before .before .before .before .before .before .before .before .before .loop, c .before .before .before .before .before .before .before .before .before .before .before .before .before .before .loop-test, c .before .before .before .before .before .before .before .before .before .before .before .before .before .before .before .before .before .before .before .before .before .good, c .before .before .before .before .before .before .before .before .before .before .before .before .before .before .before .before .before .before .before .before .before .pre, c .before .before .before .before .before .before .before .if4))
-    (λ c. omega (arith, c .before .before .before .before .before .before .before .before .before .before .before .before .before .before .before .loop, c .before .before .before .before .before .before .before .before .before .before .before .before .before .before .loop-test, c .before .before .before .before .before .before .before .before .before .before .before .before .before .before .before .before .before .before .before .before .before .good, c .before .before .before .before .before .before .before .before .before .before .before .before .before .before .before .before .before .before .before .before .before .pre, c .before .before .before .before .before .before .before .if4))
-    (λ c. omega (arith, c .before .before .before .before .before .before .before .before .before .before .before .before .before .before .before .loop, c .before .before .before .before .before .before .before .before .before .before .before .before .before .before .loop-test, c .before .before .before .before .before .before .before .before .before .before .before .before .before .before .before .before .before .before .before .before .before .good, c .before .before .before .before .before .before .before .before .before .before .before .before .before .before .before .before .before .before .before .before .before .pre, c .before .before .before .before .before .before .before .if4))
-    (λ c. omega (arith, c .before .before .before .before .before .before .before .before .before .before .before .before .before .before .before .loop, c .before .before .before .before .before .before .before .before .before .before .before .before .before .before .loop-test, c .before .before .before .before .before .before .before .before .before .before .before .before .before .before .before .before .before .before .before .before .before .good, c .before .before .before .before .before .before .before .before .before .before .before .before .before .before .before .before .before .before .before .before .before .pre, c .before .before .before .before .before .before .before .if4))
-    loop-again-2
-    (λ c. omega (arith, c .before .before .before .before .before .before .before .before .loop, c .before .before .before .before .before .before .before .loop-test, c .before .before .before .before .before .before .before .before .before .before .before .before .before .before .good, c .before .before .before .before .before .before .before .before .before .before .before .before .before .before .pre, c .if4))
-    (λ c. omega (arith, c .before .before .before .before .before .before .before .before .loop, c .before .before .before .before .before .before .before .loop-test, c .before .before .before .before .before .before .before .before .before .before .before .before .before .before .good, c .before .before .before .before .before .before .before .before .before .before .before .before .before .before .pre, c .if4))
-    (λ c. omega (arith, c .before .before .before .before .before .before .before .before .loop, c .before .before .before .before .before .before .before .loop-test, c .before .before .before .before .before .before .before .before .before .before .before .before .before .before .good, c .before .before .before .before .before .before .before .before .before .before .before .before .before .before .pre, c .if4))
-    loop-again-3
-    refresh-requires
-    due-at-requires
-    (λ c. omega (arith, c .before .before .before .before .before .before .before .before .before .before .before .before .loop, c .before .before .before .before .before .before .before .before .before .before .before .loop-test, c .before .before .before .before .before .before .before .before .before .before .before .before .before .before .before .before .before .before .good, c .before .before .before .before .before .before .before .before .before .before .before .before .before .before .before .before .before .before .pre, c .if6))
-    (λ c. omega (arith, c .before .before .before .before .before .before .before .before .before .before .before .before .loop, c .before .before .before .before .before .before .before .before .before .before .before .loop-test, c .before .before .before .before .before .before .before .before .before .before .before .before .before .before .before .before .before .before .good, c .before .before .before .before .before .before .before .before .before .before .before .before .before .before .before .before .before .before .pre, c .if6))
-    (λ c κs. tt)
-    (λ c. omega (arith, c .before .before .before .before .before .before .before .before .before .before .before .before .before .before .before .loop, c .before .before .before .before .before .before .before .before .before .before .before .before .before .before .loop-test, c .before .before .before .before .before .before .before .before .before .before .before .before .before .before .before .before .before .before .before .before .before .good, c .before .before .before .before .before .before .before .before .before .before .before .before .before .before .before .before .before .before .before .before .before .pre, c .before .before .before .if6))
-    (λ c. omega (arith, c .before .before .before .before .before .before .before .before .before .before .before .before .before .before .before .loop, c .before .before .before .before .before .before .before .before .before .before .before .before .before .before .loop-test, c .before .before .before .before .before .before .before .before .before .before .before .before .before .before .before .before .before .before .before .before .before .good, c .before .before .before .before .before .before .before .before .before .before .before .before .before .before .before .before .before .before .before .before .before .pre, c .before .before .before .if6))
-    flip-requires-2
-    (λ c κs. tt)
-    (λ c. omega (arith, c .before .before .before .before .before .before .before .before .before .before .before .before .before .before .before .before .before .loop, c .before .before .before .before .before .before .before .before .before .before .before .before .before .before .before .before .loop-test, c .before .before .before .before .before .before .before .before .before .before .before .before .before .before .before .before .before .before .before .before .before .before .before .good, c .before .before .before .before .before .before .before .before .before .before .before .before .before .before .before .before .before .before .before .before .before .before .before .pre, c .before .before .before .before .before .if6))
-    (λ c. omega (arith, c .before .before .before .before .before .before .before .before .before .before .before .before .before .before .before .before .before .loop, c .before .before .before .before .before .before .before .before .before .before .before .before .before .before .before .before .loop-test, c .before .before .before .before .before .before .before .before .before .before .before .before .before .before .before .before .before .before .before .before .before .before .before .good, c .before .before .before .before .before .before .before .before .before .before .before .before .before .before .before .before .before .before .before .before .before .before .before .pre, c .before .before .before .before .before .if6))
-    (λ c κs. tt)
-    (λ c κs. tt)
-    (λ c. omega (arith, c .before .before .before .before .before .before .before .before .before .before .before .before .before .before .before .before .before .before .before .loop, c .before .before .before .before .before .before .before .before .before .before .before .before .before .before .before .before .before .before .loop-test, c .before .before .before .before .before .before .before .before .before .before .before .before .before .before .before .before .before .before .before .before .before .before .before .before .before .good, c .before .before .before .before .before .before .before .before .before .before .before .before .before .before .before .before .before .before .before .before .before .before .before .before .before .pre, c .before .before .before .before .before .before .before .if6))
-    (λ c. omega (arith, c .before .before .before .before .before .before .before .before .before .before .before .before .before .before .before .before .before .before .before .loop, c .before .before .before .before .before .before .before .before .before .before .before .before .before .before .before .before .before .before .loop-test, c .before .before .before .before .before .before .before .before .before .before .before .before .before .before .before .before .before .before .before .before .before .before .before .before .before .good, c .before .before .before .before .before .before .before .before .before .before .before .before .before .before .before .before .before .before .before .before .before .before .before .before .before .pre, c .before .before .before .before .before .before .before .if6))
-    (λ c. omega (arith, c .before .before .before .before .before .before .before .before .before .before .before .before .before .before .before .before .before .before .before .loop, c .before .before .before .before .before .before .before .before .before .before .before .before .before .before .before .before .before .before .loop-test, c .before .before .before .before .before .before .before .before .before .before .before .before .before .before .before .before .before .before .before .before .before .before .before .before .before .good, c .before .before .before .before .before .before .before .before .before .before .before .before .before .before .before .before .before .before .before .before .before .before .before .before .before .pre, c .before .before .before .before .before .before .before .if6))
-    (λ c. omega (arith, c .before .before .before .before .before .before .before .before .before .before .before .before .before .before .before .before .before .before .before .loop, c .before .before .before .before .before .before .before .before .before .before .before .before .before .before .before .before .before .before .loop-test, c .before .before .before .before .before .before .before .before .before .before .before .before .before .before .before .before .before .before .before .before .before .before .before .before .before .good, c .before .before .before .before .before .before .before .before .before .before .before .before .before .before .before .before .before .before .before .before .before .before .before .before .before .pre, c .before .before .before .before .before .before .before .if6))
-    (λ c. omega (arith, c .before .before .before .before .before .before .before .before .before .before .before .before .before .before .before .before .before .before .before .loop, c .before .before .before .before .before .before .before .before .before .before .before .before .before .before .before .before .before .before .loop-test, c .before .before .before .before .before .before .before .before .before .before .before .before .before .before .before .before .before .before .before .before .before .before .before .before .before .good, c .before .before .before .before .before .before .before .before .before .before .before .before .before .before .before .before .before .before .before .before .before .before .before .before .before .pre, c .before .before .before .before .before .before .before .if6))
-    loop-again-4
-    (λ c. omega (arith, c .before .before .before .before .before .before .before .before .before .before .before .before .loop, c .before .before .before .before .before .before .before .before .before .before .before .loop-test, c .before .before .before .before .before .before .before .before .before .before .before .before .before .before .before .before .before .before .good, c .before .before .before .before .before .before .before .before .before .before .before .before .before .before .before .before .before .before .pre, c .if6))
-    (λ c. omega (arith, c .before .before .before .before .before .before .before .before .before .before .before .before .loop, c .before .before .before .before .before .before .before .before .before .before .before .loop-test, c .before .before .before .before .before .before .before .before .before .before .before .before .before .before .before .before .before .before .good, c .before .before .before .before .before .before .before .before .before .before .before .before .before .before .before .before .before .before .pre, c .if6))
-    (λ c. omega (arith, c .before .before .before .before .before .before .before .before .before .before .before .before .loop, c .before .before .before .before .before .before .before .before .before .before .before .loop-test, c .before .before .before .before .before .before .before .before .before .before .before .before .before .before .before .before .before .before .good, c .before .before .before .before .before .before .before .before .before .before .before .before .before .before .before .before .before .before .pre, c .if6))
-    loop-again-5
-    (λ c. omega (arith, c .before .before .before .before .before .before .before .before .loop, c .before .before .before .before .before .before .before .loop-test, c .before .before .before .before .before .before .before .before .before .before .before .before .before .before .good, c .before .before .before .before .before .before .before .before .before .before .before .before .before .before .pre))
-    (λ c. omega (arith, c .before .before .before .before .before .before .before .before .before .loop, c .before .before .before .before .before .before .before .before .loop-test, c .before .before .before .before .before .before .before .before .before .before .before .before .before .before .before .good, c .before .before .before .before .before .before .before .before .before .before .before .before .before .before .before .pre, c .if7))
-    (λ c. omega (arith, c .before .before .before .before .before .before .before .before .before .loop, c .before .before .before .before .before .before .before .before .loop-test, c .before .before .before .before .before .before .before .before .before .before .before .before .before .before .before .good, c .before .before .before .before .before .before .before .before .before .before .before .before .before .before .before .pre, c .if7))
-    (λ c κs. tt)
-    identifier-in-requires
-    act-requires
-    (λ c. omega (arith, c .before .before .before .before .before .before .before .before .before .before .before .before .before .before .before .before .loop, c .before .before .before .before .before .before .before .before .before .before .before .before .before .before .before .loop-test, c .before .before .before .before .before .before .before .before .before .before .before .before .before .before .before .before .before .before .before .before .before .before .good, c .before .before .before .before .before .before .before .before .before .before .before .before .before .before .before .before .before .before .before .before .before .before .pre, c .before .before .before .before .before .before .before .if7))
-    (λ c. omega (arith, c .before .before .before .before .before .before .before .before .before .before .before .before .before .before .before .before .loop, c .before .before .before .before .before .before .before .before .before .before .before .before .before .before .before .loop-test, c .before .before .before .before .before .before .before .before .before .before .before .before .before .before .before .before .before .before .before .before .before .before .good, c .before .before .before .before .before .before .before .before .before .before .before .before .before .before .before .before .before .before .before .before .before .before .pre, c .before .before .before .before .before .before .before .if7))
-    flip-requires-3
-    (λ c κs. tt)
-    (λ c. omega (arith, c .before .before .before .before .before .before .before .before .before .before .before .before .before .before .before .before .before .before .loop, c .before .before .before .before .before .before .before .before .before .before .before .before .before .before .before .before .before .loop-test, c .before .before .before .before .before .before .before .before .before .before .before .before .before .before .before .before .before .before .before .before .before .before .before .before .good, c .before .before .before .before .before .before .before .before .before .before .before .before .before .before .before .before .before .before .before .before .before .before .before .before .pre, c .before .before .before .before .before .before .before .before .before .if7))
-    (λ c. omega (arith, c .before .before .before .before .before .before .before .before .before .before .before .before .before .before .before .before .before .before .loop, c .before .before .before .before .before .before .before .before .before .before .before .before .before .before .before .before .before .loop-test, c .before .before .before .before .before .before .before .before .before .before .before .before .before .before .before .before .before .before .before .before .before .before .before .before .good, c .before .before .before .before .before .before .before .before .before .before .before .before .before .before .before .before .before .before .before .before .before .before .before .before .pre, c .before .before .before .before .before .before .before .before .before .if7))
-    (λ c κs. tt)
-    (λ c κs. tt)
-    (λ c. omega (arith, c .before .before .before .before .before .before .before .before .before .before .before .before .before .before .before .before .before .before .before .before .loop, c .before .before .before .before .before .before .before .before .before .before .before .before .before .before .before .before .before .before .before .loop-test, c .before .before .before .before .before .before .before .before .before .before .before .before .before .before .before .before .before .before .before .before .before .before .before .before .before .before .good, c .before .before .before .before .before .before .before .before .before .before .before .before .before .before .before .before .before .before .before .before .before .before .before .before .before .before .pre, c .before .before .before .before .before .before .before .before .before .before .before .if7))
-    (λ c. omega (arith, c .before .before .before .before .before .before .before .before .before .before .before .before .before .before .before .before .before .before .before .before .loop, c .before .before .before .before .before .before .before .before .before .before .before .before .before .before .before .before .before .before .before .loop-test, c .before .before .before .before .before .before .before .before .before .before .before .before .before .before .before .before .before .before .before .before .before .before .before .before .before .before .good, c .before .before .before .before .before .before .before .before .before .before .before .before .before .before .before .before .before .before .before .before .before .before .before .before .before .before .pre, c .before .before .before .before .before .before .before .before .before .before .before .if7))
-    (λ c κs. tt)
-    (λ c. omega (arith, c .before .before .before .before .before .before .before .before .before .before .before .before .before .before .before .before .before .before .before .before .before .loop, c .before .before .before .before .before .before .before .before .before .before .before .before .before .before .before .before .before .before .before .before .loop-test, c .before .before .before .before .before .before .before .before .before .before .before .before .before .before .before .before .before .before .before .before .before .before .before .before .before .before .before .good, c .before .before .before .before .before .before .before .before .before .before .before .before .before .before .before .before .before .before .before .before .before .before .before .before .before .before .before .pre, c .before .before .before .before .before .before .before .before .before .before .before .before .if7))
-    (λ c. omega (arith, c .before .before .before .before .before .before .before .before .before .before .before .before .before .before .before .before .before .before .before .before .before .loop, c .before .before .before .before .before .before .before .before .before .before .before .before .before .before .before .before .before .before .before .before .loop-test, c .before .before .before .before .before .before .before .before .before .before .before .before .before .before .before .before .before .before .before .before .before .before .before .before .before .before .before .good, c .before .before .before .before .before .before .before .before .before .before .before .before .before .before .before .before .before .before .before .before .before .before .before .before .before .before .before .pre, c .before .before .before .before .before .before .before .before .before .before .before .before .if7))
-    (λ c. omega (arith, c .before .before .before .before .before .before .before .before .before .before .before .before .before .before .before .before .before .before .before .before .before .loop, c .before .before .before .before .before .before .before .before .before .before .before .before .before .before .before .before .before .before .before .before .loop-test, c .before .before .before .before .before .before .before .before .before .before .before .before .before .before .before .before .before .before .before .before .before .before .before .before .before .before .before .good, c .before .before .before .before .before .before .before .before .before .before .before .before .before .before .before .before .before .before .before .before .before .before .before .before .before .before .before .pre, c .before .before .before .before .before .before .before .before .before .before .before .before .if7))
-    loop-again-6
-    (λ c. omega (arith, c .before .before .before .before .before .before .before .before .before .before .before .before .loop, c .before .before .before .before .before .before .before .before .before .before .before .loop-test, c .before .before .before .before .before .before .before .before .before .before .before .before .before .before .before .before .before .before .good, c .before .before .before .before .before .before .before .before .before .before .before .before .before .before .before .before .before .before .pre, c .before .before .before .if7))
-    (λ c. omega (arith, c .before .before .before .before .before .before .before .before .before .before .before .before .loop, c .before .before .before .before .before .before .before .before .before .before .before .loop-test, c .before .before .before .before .before .before .before .before .before .before .before .before .before .before .before .before .before .before .good, c .before .before .before .before .before .before .before .before .before .before .before .before .before .before .before .before .before .before .pre, c .before .before .before .if7))
-    (λ c. omega (arith, c .before .before .before .before .before .before .before .before .before .before .before .before .loop, c .before .before .before .before .before .before .before .before .before .before .before .loop-test, c .before .before .before .before .before .before .before .before .before .before .before .before .before .before .before .before .before .before .good, c .before .before .before .before .before .before .before .before .before .before .before .before .before .before .before .before .before .before .pre, c .before .before .before .if7))
-    loop-again-7
-    (λ c. omega (arith, c .before .before .before .before .before .before .before .before .before .loop, c .before .before .before .before .before .before .before .before .loop-test, c .before .before .before .before .before .before .before .before .before .before .before .before .before .before .before .good, c .before .before .before .before .before .before .before .before .before .before .before .before .before .before .before .pre, c .if7))
-    (λ c. omega (arith, c .before .before .before .before .before .before .before .before .before .loop, c .before .before .before .before .before .before .before .before .loop-test, c .before .before .before .before .before .before .before .before .before .before .before .before .before .before .before .good, c .before .before .before .before .before .before .before .before .before .before .before .before .before .before .before .pre, c .if7))
-    (λ c. omega (arith, c .before .before .before .before .before .before .before .before .before .loop, c .before .before .before .before .before .before .before .before .loop-test, c .before .before .before .before .before .before .before .before .before .before .before .before .before .before .before .good, c .before .before .before .before .before .before .before .before .before .before .before .before .before .before .before .pre, c .if7))
-    loop-again-8
-    (λ c. omega (arith, c .before .before .before .before .before .loop, c .before .before .before .before .loop-test, c .before .before .before .before .before .before .before .before .before .before .before .good, c .before .before .before .before .before .before .before .before .before .before .before .pre))
-    (λ c. omega (arith, c .before .before .before .before .before .loop, c .before .before .before .before .loop-test, c .before .before .before .before .before .before .before .before .before .before .before .good, c .before .before .before .before .before .before .before .before .before .before .before .pre))
-    (λ c. omega (arith, c .before .before .before .before .before .loop, c .before .before .before .before .loop-test, c .before .before .before .before .before .before .before .before .before .before .before .good, c .before .before .before .before .before .before .before .before .before .before .before .pre))
-    loop-again-9
+    Inv-loop μ-loop (λ c κs. search needs) loop-holds (λ c. omega arith) (λ c κs. search needs) place-on-requires (λ c κs. tt) mul-c array-copy-out-c identifier-in-requires (λ c κs. tt)
+    (λ c. search needs) add-refused
+    (λ c. search needs) refresh-requires (λ c κs. tt) add-done
+    (λ c. search needs) mul-calls array-set-from-calls flip-requires (λ c κs. tt) mul-dues array-write-dues (λ c κs. tt) (λ c κs. tt) mul-held array-write-held (λ c κs. tt) add-done-2
+    add-k loop-less loop-again
     returns)

@@ -1,5 +1,6 @@
+use borrow.Author.Needs.{needs}
 use Rattle.sound.proofs.sound_free.Statement.{statement}
 use Rattle.sound.proofs.sound_free.Tie as tie
 
 pub sound-free-spec : {M : Type 1} → statement M
-sound-free-spec = tie.close (tie.spec (λ c κs. tt) (λ c κs. tt) (λ c. rw (c .incoming-unused .ensures, c .before .outgoing-unused .ensures)))
+sound-free-spec = tie.close (tie.spec (λ c κs. search needs) (λ c κs. search needs) (λ c. simp (c .before .incoming-unused .ensures, c .before .before .outgoing-unused .ensures)))

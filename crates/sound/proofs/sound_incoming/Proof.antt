@@ -1,7 +1,7 @@
-use Rattle.call.specs.Soundness.{soundIncoming}
+use borrow.Author.Needs.{needs}
+use Rattle.ground.proofs.Ways.{ways, asked}
 use Rattle.sound.proofs.sound_incoming.Statement.{statement}
 use Rattle.sound.proofs.sound_incoming.Tie as tie
 
 pub sound-incoming-spec : {M : Type 1} → statement M
-unfolding soundIncoming
-sound-incoming-spec = tie.close (tie.spec (λ c κs. tt) (λ c κs. tt) (λ c κs. tt) (λ c κs. tt) (λ c κs. tt) (λ c κs. tt) (λ c κs. tt) (λ c κs. tt) (λ c. rw (c .before .wait-holds .ensures, c .before .before .excludes .ensures, c .before .before .before .identifier-there .ensures, c .before .before .before .before .request-holds .ensures, c .before .before .before .before .before .numbers-hold .ensures, c .before .before .before .before .before .before .cdf-holds .ensures, c .before .before .before .before .before .before .before .before .incoming-codes .ensures, c .before .before .before .before .before .before .before .before .before .outgoing-unused .ensures)))
+sound-incoming-spec = tie.close (tie.spec (λ c κs. search needs) (λ c κs. search needs) (λ c κs. search needs) (λ c. rw (← c .before .before .codes-word .ensures) (search (ways, asked))) (λ c κs. search needs) (λ c κs. search needs) (λ c. rw (← c .before .before .before .before .codes-word .ensures) (search (ways, asked))) (λ c. rw (← c .before .before .before .codes-word .ensures) (search (ways, asked))) (λ c. search (ways, asked)))

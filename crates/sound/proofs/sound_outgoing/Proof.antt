@@ -1,7 +1,7 @@
-use Rattle.call.specs.Soundness.{soundOutgoing}
+use borrow.Author.Needs.{needs}
+use Rattle.ground.proofs.Ways.{ways, asked}
 use Rattle.sound.proofs.sound_outgoing.Statement.{statement}
 use Rattle.sound.proofs.sound_outgoing.Tie as tie
 
 pub sound-outgoing-spec : {M : Type 1} → statement M
-unfolding soundOutgoing
-sound-outgoing-spec = tie.close (tie.spec (λ c κs. tt) (λ c κs. tt) (λ c κs. tt) (λ c κs. tt) (λ c κs. tt) (λ c. rw (c .divert-holds .ensures, c .before .history-holds .ensures, c .before .before .waiting-holds .ensures, c .before .before .before .before .outgoing-codes .ensures, c .before .before .before .before .before .incoming-unused .ensures)))
+sound-outgoing-spec = tie.close (tie.spec (λ c κs. search needs) (λ c κs. search needs) (λ c κs. search needs) (λ c. rw (← c .before .before .party-word .ensures) (search (ways, asked))) (λ c κs. search needs) (λ c κs. search needs) (λ c κs. search needs) (λ c. rw (← c .before .before .before .before .before .before .party-word .ensures) (search (ways, asked))) (λ c. rw (← c .before .before .before .before .before .party-word .ensures) (search (ways, asked))) (λ c. rw (← c .before .before .before .party-word .ensures) (search (ways, asked))) (λ c. search (ways, asked)))

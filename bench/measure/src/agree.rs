@@ -1,0 +1,174 @@
+//! Before anything is measured: the plain engine and the library say of each
+//! event what the model says, and leave the same records and station.
+
+use crate::workload::Workload;
+use crate::{convert, library, Run, Step};
+use model::codes::*;
+use model::event::SIZE;
+use model::lent::{self, Case};
+use model::profile::{self, Profile, Walk};
+use model::random::Random;
+use model::record::FIELDS;
+use model::{guided, panel, Event, Record, Station};
+use plain::answer::Answer;
+use plain::call::Call;
+
+/// Lent tables with an event each, sound and damaged.
+const CASES: usize = 100_000;
+/// Events of each of the model's profiles.
+const PLAYED: usize = 10_000;
+/// Well-made events of which every byte is set to every value.
+const BENT: usize = 150;
+
+pub fn check(works: &[Workload]) {
+    let mut random = Random::new(2);
+    for _ in 0..CASES {
+        same(&lent::case(&mut random));
+    }
+    profile::ALL.into_iter().for_each(played);
+    every_field(&mut random);
+    one_mark();
+    works.iter().for_each(every_bit);
+}
+
+/// What an engine makes of a case: the answer, the station and the records.
+type Outcome = (Answer, plain::station::Station, Vec<Call>);
+
+fn by_model(case: &Case) -> Outcome {
+    let (mut table, mut station) = (case.table.clone(), case.station);
+    let answer = model::step(&mut table, &mut station, &case.event);
+    (
+        convert::answer(&answer),
+        convert::station(&station),
+        convert::table(&table),
+    )
+}
+
+fn by_step(step: Step, case: &Case) -> Outcome {
+    let (mut table, mut station) = (convert::table(&case.table), convert::station(&case.station));
+    let answer = step(&mut table, &mut station, &convert::event(&case.event));
+    (answer, station, table)
+}
+
+/// The same of a run of one event, which tells of its answer only whether it is done.
+fn by_run(run: Run, case: &Case) -> (bool, plain::station::Station, Vec<Call>) {
+    let (mut table, mut station) = (convert::table(&case.table), convert::station(&case.station));
+    let done = run(&mut table, &mut station, &case.event.encode());
+    (done == 1, station, table)
+}
+
+fn same(case: &Case) {
+    let (answer, station, table) = by_model(case);
+    let stepped = (answer, station, table.clone());
+    assert!(
+        by_step(plain::lent::step, case) == stepped,
+        "plain: {case:?}"
+    );
+    assert!(by_step(library::step, case) == stepped, "library: {case:?}");
+    let ran = (answer.code == 0, station, table);
+    assert!(
+        by_run(plain::lent::run, case) == ran,
+        "plain's run: {case:?}"
+    );
+    assert!(by_run(library::run, case) == ran, "library's run: {case:?}");
+}
+
+/// Well-made events with one byte set to every value.
+fn every_field(random: &mut Random) {
+    for _ in 0..BENT {
+        let station = lent::station(random);
+        let table = lent::table(random, 2, &station);
+        let event = Event {
+            time: station.last_time,
+            ..guided::any_well_made(random, &table)
+        };
+        for (at, value) in (0..SIZE).flat_map(|at| (0..=u8::MAX).map(move |value| (at, value))) {
+            let mut bent = event.encode();
+            bent[at] = value;
+            same(&Case {
+                table: table.clone(),
+                station,
+                event: Event::decode(&bent),
+            });
+        }
+    }
+}
+
+/// Each bit of each record of a table in use turned over.
+fn every_bit(work: &Workload) {
+    let bits = FIELDS.into_iter().enumerate();
+    for (field, bit) in bits.flat_map(|(field, (_, width))| (0..width).map(move |bit| (field, bit)))
+    {
+        for at in 0..work.records.len() {
+            let mut values = work.records[at].values();
+            values[field] ^= 1 << bit;
+            let mut table = work.records.clone();
+            table[at] = Record::from_values(&values);
+            same(&Case {
+                table,
+                station: work.start,
+                event: work.first,
+            });
+        }
+    }
+}
+
+/// Identifiers whose marks in the plain engine's test are the same one.
+fn one_mark() {
+    let request = |i: u16| Record {
+        direction: INCOMING,
+        basic: PROCEEDING,
+        own: 1,
+        cds: REQUESTED,
+        reason: CFU,
+        identifier: 1 + 1024 * i,
+        ..Record::default()
+    };
+    let mut case = Case {
+        table: (0..64).map(request).collect(),
+        station: Station::short(),
+        event: Event {
+            kind: CLOCK,
+            ..Event::default()
+        },
+    };
+    same(&case);
+    assert!(by_model(&case).0.code == 0);
+    case.table[63].identifier = case.table[0].identifier;
+    same(&case);
+}
+
+/// A list of events one by one, and all of it in a run.
+fn played(profile: Profile) {
+    let mut walk = Walk::new(profile, 3);
+    let (table, station) = (convert::table(&walk.table), convert::station(&walk.station));
+    let (mut events, mut done) = (Vec::new(), 0);
+    for _ in 0..PLAYED {
+        let (table, station) = (walk.table.clone(), walk.station);
+        let (event, answer) = walk.advance();
+        same(&Case {
+            table,
+            station,
+            event,
+        });
+        events.push(event);
+        done += usize::from(answer.code == 0);
+    }
+    let bytes = panel::bytes(&events);
+    let left = (
+        done,
+        convert::station(&walk.station),
+        convert::table(&walk.table),
+    );
+    for (name, run) in [
+        ("plain", plain::lent::run as Run),
+        ("library", library::run),
+    ] {
+        let (mut table, mut station) = (table.clone(), station);
+        let done = run(&mut table, &mut station, &bytes);
+        assert!(
+            (done, station, table) == left,
+            "{name}: a run of {profile:?}"
+        );
+    }
+}

@@ -1,0 +1,91 @@
+-- The board as the code holds it, and the table that it stands for. Assumes nothing.
+use Prim.Native.Nat.{ℕ, zero, suc, _≤_, _<_}
+use mathlib.Core.Bool.{Bool, true, false, _&&_, not}
+use mathlib.Core.List.{List, [], _∷_, _++_}
+use mathlib.Core.Path.{_≡_, refl, sym, ap, _∙_}
+use native.Mathlib.Nat.{le-of-suc-le-suc, not-suc-le-zero}
+use native.Mathlib.Omega.{arith}
+use borrow.Author.Tests.{le-ltb, lt-ltb, ltb-true, ltb-false, leb-true, not-true}
+use lib.Dec.{ltb, leb}
+use lib.ListN.{length, set, take, drop, length-take, take-append-drop}
+use Rattle.ground.specs.Choice.{when_then_else_}
+use Rattle.ground.specs.Lists.{all}
+use Rattle.ground.proofs.Bools.{by-cases}
+use Rattle.ground.proofs.Walks.{both}
+use Rattle.event.specs.declared.Event.{Event}
+use Rattle.identifier.specs.Identifier.{distinct}
+use Rattle.call.specs.declared.Call.{Call}
+use Rattle.call.specs.declared.Effect.{Effect}
+use Rattle.call.specs.Soundness.{soundCall}
+use Rattle.station.specs.declared.Station.{Station}
+use Rattle.station.specs.Station.{emptyAnswer, stationOk}
+use Rattle.station.specs.Table.{requestsOf, sound}
+use Rattle.station.specs.Step.{refused, answerOf}
+use Rattle.board.specs.declared.Board.{Board}
+use Rattle.board.specs.Board.{tableOf, putBack, soundBoard, refusedBoard, noneDueBoard, doneBoard, within}
+
+pub table-long : (n : ℕ) (calls : List Call) → n ≤ 64 → length calls ≡ 64 → length (take n calls) ≡ n
+table-long n calls h e = omega (arith, length-take n calls)
+
+-- the bounds of the length and the station
+abbrev pub bounds : ℕ → Station → Bool
+bounds len s = (leb 1 len && leb len 64) && stationOk s
+
+pub short : (len : ℕ) (s : Station) (t : Bool) → t ≡ bounds len s → t ≡ true → len ≤ 64
+short len s t q z =
+    let w = both (leb 1 len && leb len 64) (stationOk s) (sym q ∙ z) in
+    leb-true len 64 (both (leb 1 len) (leb len 64) (w .0) .1)
+
+-- what the test of a table asks of its records
+abbrev pub soundRecords : ℕ → List Call → Bool
+soundRecords last calls = all (soundCall last) calls && distinct (requestsOf calls)
+
+pub sound-parts : (s : Station) (calls : List Call) (len : ℕ) → len ≤ 64 → length calls ≡ 64
+    → sound s (take len calls) ≡ bounds len s && soundRecords (s .last) (take len calls)
+unfolding sound
+sound-parts s calls len h e = rw (table-long len calls h e) (regroup (leb 1 len && leb len 64) (stationOk s) (soundRecords (s .last) (take len calls)))
+  where
+    regroup : (a b c : Bool) → a && b && c ≡ (a && b) && c
+    regroup true b c = refl
+    regroup false b c = refl
+
+-- the test behind number 1, in the order of the code
+pub board-tested : (b : Board) (t r : Bool) → length (b .calls) ≡ 64 → t ≡ bounds (b .len) (b .station) → t ≡ true
+    → r ≡ soundRecords (b .station .last) (tableOf b) → r ≡ soundBoard b
+board-tested b t r e q z p =
+    let h = short (b .len) (b .station) t q z in
+    sym (rw (le-ltb 64 (b .len) h) (sound-parts (b .station) (b .calls) (b .len) h e ∙ rw (← q, z, ← p)))
+
+pub board-unfit : (b : Board) (t : Bool) → length (b .calls) ≡ 64 → t ≡ bounds (b .len) (b .station) → t ≡ false → false ≡ soundBoard b
+board-unfit b t e q z =
+    by-cases (ltb 64 (b .len)) (λ l. rw l) (λ l.
+    sym (rw l (sound-parts (b .station) (b .calls) (b .len) (ltb-false 64 (b .len) l) e ∙ rw (← q, z))))
+
+-- a list with one of its first elements replaced
+pub set-beginning : {A : Type 0} (n : ℕ) (l : List A) (i : ℕ) (x : A) → i < n → set (take n l) i x ++ drop n l ≡ set l i x
+set-beginning zero l i x h = absurd (not-suc-le-zero h)
+set-beginning (suc n) [] i x h = refl
+set-beginning (suc n) (y ∷ ys) zero x h = ap (λ r. x ∷ r) (take-append-drop n ys)
+set-beginning (suc n) (y ∷ ys) (suc i) x h = ap (λ r. y ∷ r) (set-beginning n ys i x (le-of-suc-le-suc h))
+
+-- an outcome on the table, as the array holds it
+pub back-refused : (b : Board) (code : ℕ) → putBack b (refused (b .station) (tableOf b) code) ≡ refusedBoard b code
+back-refused b code = rw (take-append-drop (b .len) (b .calls))
+
+pub back-none : (b : Board) (s : Station) → putBack b (record { answer = emptyAnswer 0; station = s; calls = tableOf b }) ≡ noneDueBoard b s
+back-none b s = rw (take-append-drop (b .len) (b .calls))
+
+pub back-done : (b : Board) (s : Station) (i : ℕ) (x : Effect) → i < b .len
+    → putBack b (record { answer = answerOf i x; station = s; calls = set (tableOf b) i (x .call) }) ≡ doneBoard b s i x
+back-done b s i x h = rw (set-beginning (b .len) (b .calls) i (x .call) h)
+
+-- a sound board has 64 records at most
+pub tested-short : (b : Board) → soundBoard b ≡ true → b .len ≤ 64
+tested-short b h = ltb-false 64 (b .len) (not-true (ltb 64 (b .len)) (both (not (ltb 64 (b .len))) (sound (b .station) (tableOf b)) h .0))
+
+-- what is read is a record of the array, and that of the table where the table has the place
+pub within-small : (place len : ℕ) → len ≤ 64 → within place len < 64
+within-small place len h = by-cases (ltb place len) (λ t. rw t (let l = ltb-true place len t in omega arith)) (λ f. rw f (omega arith))
+
+pub within-near : (place len : ℕ) → place < len → within place len ≡ place
+within-near place len l = rw (lt-ltb place len l)

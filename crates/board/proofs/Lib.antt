@@ -1,0 +1,6 @@
+pub mod Boards
+pub mod Found
+pub mod Sees
+pub mod Kept
+pub mod Beside
+pub mod Steps

@@ -1,0 +1,59 @@
+// How a run holds its table: 64 records by value, of which the first `len` are the table. Where an event acts on it, by what
+// the run keeps beside it.
+ghost use mathlib.Core.Path.{_≡_};
+ghost use mathlib.Core.Bool.{true};
+ghost use Prim.Native.Nat.{ℕ, _≤_};
+ghost use lib.Count.{trailingZeros};
+ghost use lib.ListN.{length};
+ghost use Rattle.ground.specs.Lists.{first, all};
+ghost use Rattle.notes.specs.Notes.{atLeast, under};
+ghost use Rattle.turn.specs.Turn.{placeOf};
+ghost use Rattle.board.specs.Board.{soundBoard, within};
+use call::Call;
+use event::Event;
+use station::Station;
+
+#[repr(C)]
+pub struct Board {
+    pub station: Station,
+    pub len: usize,
+    pub calls: [Call; 64],
+}
+
+// Table and station are sound: the test behind number 1.
+pub fn sound_board(b: Board) -> bool
+    ensures { λ r. ⌜ r ≡ soundBoard b ⌝ }
+{
+    let len = b.len;
+    let calls = b.calls;
+    let last = b.station.last;
+    let limit = b.station.limit;
+    let next = b.station.next;
+    if sound::in_bounds(len, limit, next) {
+        return table::sound_table(calls, len, last);
+    }
+    false
+}
+
+// Where an event acts; the column of due times is looked at for a clock event only.
+pub fn place_on(e: Event, free: u64, soon: u64, dues: &[u64; 64]) -> usize
+    requires { ⌜ (length (now dues) ≡ 64) × (all (atLeast soon) (now dues) ≡ true) ⌝ }
+    ensures { λ r. ⌜ r ≡ placeOf e (trailingZeros 64 free) (first (under (e .time)) (now (dues .entry))) ⌝ }
+{
+    let kind = e.kind;
+    let time = e.time;
+    if (1 <= kind) & (kind <= 3) {
+        return notes::lowest(free);
+    }
+    if kind == 10 {
+        return notes::due_at(dues, soon, time);
+    }
+    e.call as usize
+}
+
+// The place, or 0 where the table has no such record: what is read there is not looked at.
+pub fn within(place: usize, len: usize) -> usize
+    ensures { λ r. ⌜ r ≡ within place len ⌝ }
+{
+    if place < len { place } else { 0 }
+}

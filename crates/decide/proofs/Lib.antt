@@ -1,5 +1,0 @@
-pub mod Sorts
-pub mod Numbered
-pub mod Decisions
-pub mod Stepped
-pub mod Tested

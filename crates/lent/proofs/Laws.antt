@@ -1,0 +1,232 @@
+-- What was noted and picked of a lent table decides the event as the definition does, on every table; and what a decision stands for is the definition's step. Assumes nothing.
+use Prim.Native.Nat.{ℕ, _+_, _≤_, _<_, zero-le}
+use mathlib.Core.Bool.{Bool, true, false, _&&_, not}
+use mathlib.Core.List.{List}
+use mathlib.Core.Path.{_≡_, refl, sym, ap, _∙_, subst}
+use native.Mathlib.Omega.{arith}
+use borrow.Author.Tests.{lt-leb, leb-true, leb-false}
+use lib.Dec.{T, leb, eqb}
+use lib.ListN.{length, take}
+use lib.Seq.{take-length}
+use Rattle.ground.specs.Choice.{when_then_else_}
+use Rattle.ground.specs.Lists.{first, all}
+use Rattle.ground.proofs.Bools.{by-cases, is-true, is-false, denied, upheld}
+use Rattle.event.specs.declared.Event.{Event}
+use Rattle.event.specs.Kinds.{diverts}
+use Rattle.identifier.specs.Identifier.{distinct}
+use Rattle.call.specs.declared.Call.{Call}
+use Rattle.call.specs.Record.{isFree}
+use Rattle.call.specs.Incoming.{due}
+use Rattle.call.specs.Soundness.{soundCall}
+use Rattle.call.specs.Act.{act}
+use Rattle.station.specs.declared.Station.{Station}
+use Rattle.station.specs.Station.{stationOk}
+use Rattle.station.specs.Table.{place, sound, soundTable, requestsOf, identifierFor}
+use Rattle.station.specs.Step.{step}
+use Rattle.slice.specs.Table.{fitOf, recordAt, settledAt}
+use Rattle.slice.proofs.Bounds.{fit-short, fit-long}
+use Rattle.notes.specs.Mask.{over}
+use Rattle.notes.specs.Notes.{identifierIn, frees}
+use Rattle.notes.proofs.Held.{held-free, requests-over}
+use Rattle.table.specs.Column.{apartIn}
+use Rattle.table.proofs.Columns.{apart-distinct}
+use Rattle.survey.specs.declared.Noted.{Noted}
+use Rattle.survey.specs.Survey.{surveyOf}
+use Rattle.survey.specs.Column.{heldIn}
+use Rattle.survey.proofs.Laws.{survey-sound, survey-free, survey-due, survey-clash}
+use Rattle.turn.specs.declared.Seen.{Seen}
+use Rattle.turn.specs.declared.Turn.{Turn}
+use Rattle.turn.specs.declared.Turn.the-variants.{Refused, NoneDue, Done}
+use Rattle.turn.specs.Turn.{seenIn, beyond, numberOf, turnOf, decidedOf, stationOn, outcomeOf, Sees}
+use Rattle.turn.proofs.Laws.{sees-in, same-station, turn-same, decided-steps}
+use Rattle.lent.specs.declared.Input.{Input}
+use Rattle.lent.specs.declared.Pick.{Pick}
+use Rattle.lent.specs.Lent.{unchangedAs, decisionOf, decisionOn, outcomeBy, askedOf, placeSeen, wantsColumn, fromColumn, asItStands, pickedOf, inBounds, seenBy, decisionBy}
+
+-- what was seen, with the place as the code holds it
+abbrev seenAt : ℕ → ℕ → Pick → Call → Seen
+seenAt n i p c = record { len = n; place = i; identifier = p .identifier; call = c }
+
+-- ---- a record changes only where there is one
+
+-- what a turn on what was seen asks of the place
+abbrev There : Seen → Turn → Type 0
+There v (Refused code) = Unit
+There v NoneDue = Unit
+There v (Done x) = v .place < v .len
+
+module _ (s : Station) (e : Event) (v : Seen) where
+  turn-there : There v (turnOf s e v)
+  unfolding turnOf
+  turn-there = go (eqb (numberOf s e v) 0) (beyond v) refl
+    where
+      go : (z b : Bool) → beyond v ≡ b → There v (when not z then Refused (numberOf s e v) else when b then NoneDue else Done (act (v .call) e (v .identifier)))
+      go true true h = tt
+      go true false h = leb-false (v .len) (v .place) h
+      go false b h = tt
+
+  within : (t : Turn) → There v t → decisionOf s e v t .place + decisionOf s e v t .count ≤ v .len
+  within (Refused code) h = zero-le
+  within NoneDue h = zero-le
+  within (Done x) h = omega (arith, h)
+
+module _ (s : Station) (calls : List Call) (e : Event) where
+  decided-there : There (seenIn s calls e) (decidedOf s calls e)
+  unfolding decidedOf
+  decided-there = go (sound s calls)
+    where
+      go : (b : Bool) → There (seenIn s calls e) (when not b then Refused 1 else turnOf s e (seenIn s calls e))
+      go true = turn-there s e (seenIn s calls e)
+      go false = tt
+
+  pub decision-within : decisionOn s calls e .place + decisionOn s calls e .count ≤ length calls
+  unfolding decisionOn
+  decision-within = within s e (seenIn s calls e) (decidedOf s calls e) decided-there
+
+  -- ---- the outcome that a decision stands for is the turn's, and so the definition's
+
+  stands-for : (v : Seen) (t : Turn) → outcomeBy calls (decisionOf s e v t) ≡ outcomeOf s calls e v t
+  unfolding settledAt
+  stands-for v (Refused code) = refl
+  stands-for v NoneDue = refl
+  stands-for v (Done x) = refl
+
+  pub decision-steps : outcomeBy calls (decisionOn s calls e) ≡ step s calls e
+  unfolding decisionOn
+  decision-steps = stands-for (seenIn s calls e) (decidedOf s calls e) ∙ decided-steps s calls e
+
+  -- ---- whoever sees enough, at the definition's place, decides the same
+  module _ (v : Seen) (z : Sees s calls e v) (p : v .place ≡ place calls e) where
+    same-after : stationOn s e (v .identifier) ≡ stationOn s e (identifierFor s calls)
+    same-after = same-station s calls e v z ∙ sym (same-station s calls e (seenIn s calls e) (sees-in s calls e))
+
+    same-decision : (t : Turn) → decisionOf s e v t ≡ decisionOf s e (seenIn s calls e) t
+    same-decision (Refused code) = refl
+    same-decision NoneDue = rw same-after
+    same-decision (Done x) = rw (p, same-after)
+
+    -- the test of the table is the definition's
+    by-test : (t : Bool) → t ≡ sound s calls → decisionOf s e v (when t then turnOf s e v else Refused 1) ≡ decisionOn s calls e
+    unfolding decisionOn decidedOf
+    by-test t q = rw (q, turn-same s calls e v z) (same-decision (when sound s calls then turnOf s e (seenIn s calls e) else Refused 1) ∙ ap (decisionOf s e (seenIn s calls e)) (turned (sound s calls)))
+      where
+        turned : (b : Bool) → (when b then turnOf s e (seenIn s calls e) else Refused 1) ≡ (when not b then Refused 1 else turnOf s e (seenIn s calls e))
+        turned true = refl
+        turned false = refl
+
+-- ---- what the code of `decided_on` found comes to
+module _ (input : Input) (v : Noted) (n : ℕ) (p : Pick) (c : Call) (fit : Bool) (bounds : fit ≡ inBounds n (input .station)) where
+  pub by-refusal : not (fit && v .sound && p .apart) ≡ true → unchangedAs 1 (input .station) ≡ decisionBy input v n p c
+  by-refusal h = rw (denied (fit && v .sound && p .apart) (inBounds n (input .station) && v .sound && p .apart) (rw bounds) h)
+
+  module _ (i : ℕ) (placed : i ≡ placeSeen v input) (t : Turn) (turns : turnOf (input .station) (input .event) (seenAt n i p c) ≡ t) where
+    pub by-turn : not (fit && v .sound && p .apart) ≡ false → decisionOf (input .station) (input .event) (seenAt n i p c) t ≡ decisionBy input v n p c
+    by-turn h = rw (upheld (fit && v .sound && p .apart) (inBounds n (input .station) && v .sound && p .apart) (rw bounds) h, ← turns, placed)
+
+    -- the place of a record that changes has room in a byte
+    pub there : There (seenAt n i p c) t
+    there = subst (There (seenAt n i p c)) turns (turn-there (input .station) (input .event) (seenAt n i p c))
+
+-- ---- and of `picked`, by its test t
+module _ (input : Input) (v : Noted) (n : ℕ) (ys : List Call) (t : Bool) (test : t ≡ wantsColumn v input) where
+  pub picked-wanted : T t → (h : List ℕ) → h ≡ heldIn n ys → (p : Pick) → p ≡ fromColumn input v h → p ≡ pickedOf input v n ys
+  picked-wanted w h q p e = e ∙ rw (← test, is-true t w, q)
+
+  pub picked-else : T (not t) → (p : Pick) → p ≡ asItStands input → p ≡ pickedOf input v n ys
+  picked-else w p e = e ∙ rw (← test, is-false t w)
+
+regroup : (a b c d : Bool) → (a && b) && c && d ≡ a && b && (c && d)
+regroup true true c d = refl
+regroup true false c d = refl
+regroup false b c d = refl
+
+-- ---- a table of up to 64 records
+module _ (input : Input) (ys : List Call) where
+  abbrev s : Station
+  s = input .station
+
+  abbrev e : Event
+  e = input .event
+
+  -- what is noted of the whole table, and picked
+  abbrev Whole : Noted
+  Whole = surveyOf (askedOf input) (length ys) 0 ys
+
+  abbrev Chosen : Pick
+  Chosen = pickedOf input Whole (length ys) ys
+
+  free-place : Whole .free ≡ first isFree ys
+  free-place = let h = survey-free (askedOf input) (length ys) 0 ys (omega arith) in omega (arith, h)
+
+  due-place : Whole .due ≡ first (due (e .time)) ys
+  due-place = let h = survey-due (askedOf input) (length ys) (e .time) 0 ys refl (omega arith) in omega (arith, h)
+
+  same-place : placeSeen Whole input ≡ place ys e
+  same-place = rw (free-place, due-place)
+
+  column-drawn : diverts e ≡ true → identifierIn e (heldIn (length ys) ys) (s .next) ≡ identifierFor s ys
+  column-drawn d = rw d (held-free 65 (over (length ys) ys frees) (s .next) ∙ rw (requests-over (length ys) ys, take-length ys))
+
+  column-apart : apartIn (heldIn (length ys) ys) ≡ distinct (requestsOf ys)
+  column-apart = apart-distinct (over (length ys) ys frees) ∙ rw (requests-over (length ys) ys, take-length ys)
+
+  no-clash : Whole .clash ≡ false → true ≡ distinct (requestsOf ys)
+  no-clash f = sym (survey-clash (askedOf input) (length ys) 0 ys f)
+
+  -- what is picked: no two identifiers are the same, and a divert's is the definition's
+  chosen-apart : Chosen .apart ≡ distinct (requestsOf ys)
+  chosen-apart =
+      by-cases (Whole .clash)
+      (λ t. rw t column-apart)
+      (λ f. by-cases (diverts e) (λ d. rw (f, d) (no-clash f)) (λ d. rw (f, d) (no-clash f)))
+
+  chosen-drawn : diverts e ≡ true → Chosen .identifier ≡ identifierFor s ys
+  chosen-drawn d = by-cases (Whole .clash) (λ t. rw t (column-drawn d)) (λ f. rw (f, d) (rw d at (column-drawn d)))
+
+  sees-table : Sees s ys e (seenBy input Whole (length ys) Chosen (recordAt ys (placeSeen Whole input)))
+  sees-table = record {
+    size = refl;
+    near = λ l. same-place;
+    far = λ l. rw same-place l;
+    there = λ l. refl;
+    drawn = chosen-drawn;
+  }
+
+  -- the test behind number 1
+  tested : inBounds (length ys) s && Whole .sound && Chosen .apart ≡ sound s ys
+  unfolding sound
+  tested =
+      rw (chosen-apart, survey-sound (askedOf input) (length ys) 0 ys)
+      (regroup (leb 1 (length ys) && leb (length ys) 64) (stationOk s) (all (soundCall (s .last)) ys) (distinct (requestsOf ys)))
+
+  short-is : decisionBy input Whole (length ys) Chosen (recordAt ys (placeSeen Whole input)) ≡ decisionOn s ys e
+  short-is = by-test s ys e (seenBy input Whole (length ys) Chosen (recordAt ys (placeSeen Whole input))) sees-table same-place _ tested
+
+-- ---- a table over 64 records is refused as the empty one is
+module _ (input : Input) (ys : List Call) (h : 64 < length ys) where
+  long-unsound : sound (input .station) ys ≡ false
+  unfolding sound
+  long-unsound = rw (lt-leb (length ys) 64 h) (never (leb 1 (length ys)))
+    where
+      never : (b : Bool) → ((b && false) && stationOk (input .station) && soundTable (input .station) ys) ≡ false
+      never true = refl
+      never false = refl
+
+  long-is : (v : Noted) (p : Pick) (c : Call) → decisionBy input v 0 p c ≡ decisionOn (input .station) ys (input .event)
+  unfolding decisionOn decidedOf
+  long-is v p c = rw long-unsound
+
+-- ---- any table
+module _ (input : Input) (ys : List Call) (n : ℕ) (v : Noted) (i : ℕ) (c : Call) (p : Pick) (e₁ : n ≡ fitOf (length ys))
+    (e₂ : v ≡ surveyOf (askedOf input) n 0 (take n ys)) (e₃ : i ≡ placeSeen v input) (e₄ : c ≡ recordAt (take n ys) i) (e₅ : p ≡ pickedOf input v n ys) where
+  pub looked-is : decisionBy input v n p c ≡ decisionOn (input .station) ys (input .event)
+  looked-is =
+      by-cases (leb (length ys) 64)
+      (λ t.
+      let f : n ≡ length ys = e₁ ∙ fit-short (length ys) (leb-true (length ys) 64 t) in
+      let g : v ≡ Whole input ys = e₂ ∙ rw (f, take-length ys) in
+      let k : c ≡ recordAt ys (placeSeen (Whole input ys) input) = e₄ ∙ rw (f, take-length ys, e₃, g) in
+      rw (e₅, k, g, f) (short-is input ys))
+      (λ t.
+      let f : n ≡ 0 = e₁ ∙ fit-long (length ys) (leb-false (length ys) 64 t) in
+      rw f (long-is input ys (leb-false (length ys) 64 t) v p c))

@@ -1,0 +1,91 @@
+-- One event on a lent table: what is told and what becomes of its records, and how that is found from what was noted of them.
+use Prim.Native.Nat.{ℕ, _-_}
+use mathlib.Core.Bool.{Bool, true, _&&_, _||_}
+use mathlib.Core.List.{List}
+use lib.Dec.{leb}
+use Rattle.ground.specs.Choice.{when_then_else_}
+use Rattle.event.specs.declared.Event.{Event}
+use Rattle.event.specs.Kinds.{diverts}
+use Rattle.call.specs.declared.Call.{Call}
+use Rattle.call.specs.Incoming.{t1}
+use Rattle.call.specs.declared.Effect.{Effect}
+use Rattle.call.specs.Record.{freeCall}
+use Rattle.station.specs.declared.Station.{Station}
+use Rattle.station.specs.Station.{stationOk, emptyAnswer}
+use Rattle.station.specs.Step.{Outcome, answerOf}
+use Rattle.slice.specs.Table.{settledAt}
+use Rattle.notes.specs.Notes.{identifierIn}
+use Rattle.table.specs.Column.{apartIn}
+use Rattle.survey.specs.declared.Asked.{Asked}
+use Rattle.survey.specs.declared.Noted.{Noted}
+use Rattle.survey.specs.Column.{heldIn}
+use Rattle.turn.specs.declared.Seen.{Seen}
+use Rattle.turn.specs.declared.Turn.{Turn}
+use Rattle.turn.specs.declared.Turn.the-variants.{Refused, NoneDue, Done}
+use Rattle.turn.specs.Turn.{placeOf, seenIn, turnOf, decidedOf, stationOn}
+use Rattle.lent.specs.declared.Input.{Input}
+use Rattle.lent.specs.declared.Decision.{Decision}
+use Rattle.lent.specs.declared.Pick.{Pick}
+
+-- no record changes, and the answer has no call
+abbrev pub unchangedAs : ℕ → Station → Decision
+unchangedAs code s = record { told = record { answer = emptyAnswer code; station = s }; place = 0; count = 0; call = freeCall }
+
+-- the record at i changes
+abbrev pub settledAs : ℕ → Effect → Station → Decision
+settledAs i x s = record { told = record { answer = answerOf i x; station = s }; place = i; count = 1; call = x .call }
+
+-- what a turn on what was seen comes to
+abbrev pub decisionOf : Station → Event → Seen → Turn → Decision
+decisionOf s e v (Refused code) = unchangedAs code s
+decisionOf s e v NoneDue = unchangedAs 0 (stationOn s e (v .identifier))
+decisionOf s e v (Done x) = settledAs (v .place) x (stationOn s e (v .identifier))
+
+-- one event on any table
+unfoldable pub decisionOn : Station → List Call → Event → Decision
+decisionOn s calls e = decisionOf s e (seenIn s calls e) (decidedOf s calls e)
+
+-- the outcome that a decision stands for
+abbrev pub outcomeBy : List Call → Decision → Outcome
+outcomeBy calls d = record { answer = d .told .answer; station = d .told .station; calls = settledAt (d .place) (d .count) (d .call) calls }
+
+-- what the survey is asked
+abbrev pub askedOf : Input → Asked
+askedOf input = record { last = input .station .last; by = input .event .time - (t1 - 1) }
+
+abbrev pub placeSeen : Noted → Input → ℕ
+placeSeen v input = placeOf (input .event) (v .free) (v .due)
+
+abbrev pub wantsColumn : Noted → Input → Bool
+wantsColumn v input = v .clash || diverts (input .event)
+
+-- identifiers are compared only where two marks are the same
+abbrev pub apartWhere : Bool → List ℕ → Bool
+apartWhere clash held = when clash then apartIn held else true
+
+-- what the column of identifiers tells, and what is known without it
+abbrev pub fromColumn : Input → Noted → List ℕ → Pick
+fromColumn input v held = record { apart = apartWhere (v .clash) held; identifier = identifierIn (input .event) held (input .station .next) }
+
+abbrev pub asItStands : Input → Pick
+asItStands input = record { apart = true; identifier = input .station .next }
+
+-- of the first n records
+abbrev pub pickedOf : Input → Noted → ℕ → List Call → Pick
+pickedOf input v n calls = when wantsColumn v input then fromColumn input v (heldIn n calls) else asItStands input
+
+abbrev pub inBounds : ℕ → Station → Bool
+inBounds n s = (leb 1 n && leb n 64) && stationOk s
+
+abbrev pub seenBy : Input → Noted → ℕ → Pick → Call → Seen
+seenBy input v n p c = record { len = n; place = placeSeen v input; identifier = p .identifier; call = c }
+
+-- "1: table empty, over 64 records or not sound, .."
+abbrev pub turnBy : Input → Noted → ℕ → Pick → Call → Turn
+turnBy input v n p c =
+    when inBounds n (input .station) && v .sound && p .apart then turnOf (input .station) (input .event) (seenBy input v n p c) else
+    Refused 1
+
+-- the decision on what was noted and picked of n records, and on the record where the event acts
+abbrev pub decisionBy : Input → Noted → ℕ → Pick → Call → Decision
+decisionBy input v n p c = decisionOf (input .station) (input .event) (seenBy input v n p c) (turnBy input v n p c)

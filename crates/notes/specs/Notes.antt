@@ -1,0 +1,76 @@
+-- What a run keeps beside its table.
+use Prim.Native.Nat.{ℕ, zero, suc, _+_, _-_, min}
+use mathlib.Core.Path.{_≡_}
+use mathlib.Core.Bool.{Bool, true}
+use mathlib.Core.List.{List, [], _∷_, map}
+use lib.ListN.{length, replicate}
+use lib.Dec.{ltb, leb, eqb}
+use Rattle.ground.specs.Choice.{when_then_else_}
+use Rattle.ground.specs.Lists.{all, any}
+use Rattle.event.specs.declared.Event.{Event}
+use Rattle.event.specs.Kinds.{diverts}
+use Rattle.identifier.specs.Identifier.{after, candidates}
+use Rattle.call.specs.declared.Call.{Call}
+use Rattle.call.specs.Record.{freeCall, isFree, requested}
+use Rattle.call.specs.Incoming.{t1}
+use Rattle.notes.specs.declared.Notes.{Notes}
+use Rattle.notes.specs.Mask.{maskOf}
+
+abbrev pub never : ℕ
+never = 18446744073709551615
+
+-- an open request's identifier plus 1; 0 where none is open
+abbrev pub heldBy : Call → ℕ
+heldBy c = when requested c then c .identifier + 1 else 0
+
+-- the last time at which a request isn't due yet, by T1
+abbrev pub quietUntil : Call → ℕ
+quietUntil c =
+    when requested c then (when leb (c .start) (never - t1) then c .start + (t1 - 1) else never) else
+    never
+
+abbrev pub atLeast : ℕ → ℕ → Bool
+atLeast m d = leb m d
+
+abbrev pub under : ℕ → ℕ → Bool
+under time d = ltb d time
+
+-- the least of a column; never where it is empty
+unfoldable pub soonestOf : List ℕ → ℕ
+soonestOf [] = never
+soonestOf (d ∷ rest) = min d (soonestOf rest)
+
+-- the bound, found anew where it has passed
+abbrev pub refreshedOf : ℕ → List ℕ → ℕ → ℕ
+refreshedOf soon dues time = when ltb soon time then soonestOf dues else soon
+
+-- the first of so many candidates that the column doesn't hold; where it holds all, the one after them
+unfoldable pub firstFreeIn : ℕ → List ℕ → ℕ → ℕ
+firstFreeIn zero held candidate = candidate
+firstFreeIn (suc more) held candidate =
+    let later = firstFreeIn more held (after candidate) in
+    when any (eqb (candidate + 1)) held then later else candidate
+
+-- the identifier that the event's request takes from a column of those held; only a divert asks for one
+abbrev pub identifierIn : Event → List ℕ → ℕ → ℕ
+identifierIn e held next = when diverts e then firstFreeIn candidates held next else next
+
+-- 64 free records: what counts past the lent length
+abbrev pub frees : List Call
+frees = replicate 64 freeCall
+
+-- what records come to, summed up
+unfoldable pub notesOf : List Call → Notes
+notesOf calls = record {
+  free = maskOf isFree calls;
+  soon = soonestOf (map quietUntil calls);
+  dues = map quietUntil calls;
+  held = map heldBy calls;
+}
+
+-- what is kept from event to event: as summed up, but that the bound may lie below the least
+pub record Kept (calls : List Call) (d : Notes) : Type 0 where
+  pub mask : d .free ≡ maskOf isFree calls
+  pub column : d .dues ≡ map quietUntil calls
+  pub bound : all (atLeast (d .soon)) (d .dues) ≡ true
+  pub idents : d .held ≡ map heldBy calls

@@ -1,0 +1,5 @@
+use Rattle.refusal.proofs.outgoing_basic_forbids.Statement.{statement}
+use Rattle.refusal.proofs.outgoing_basic_forbids.Tie as tie
+
+pub outgoing-basic-forbids-spec : {M : Type 1} → statement M
+outgoing-basic-forbids-spec = tie.close (tie.spec (λ c. rw (c .before .before .before .before .pre)))

@@ -1,0 +1,25 @@
+-- Fields of a record that lie side by side in memory, as one number each.
+use Prim.Native.Nat.{ℕ, _+_, _*_}
+use Rattle.call.specs.declared.Call.{Call}
+
+-- CDO and CDR
+abbrev pub legsWord : Call → ℕ
+legsWord c = c .cdo + 256 * c .cdr
+
+-- the party on leg 1, the DLI1 that waits, and the beginning of the history: below 65536 only the party is there
+abbrev pub partyWord : Call → ℕ
+partyWord c =
+    c .party + 65536 * c .waiting .reason + 16777216 * c .waiting .option + 4294967296 * c .waiting .number + 281474976710656 * c .history .seen
+    + 72057594037927936 * c .history .strictest
+
+-- the rest of the history
+abbrev pub toldWord : Call → ℕ
+toldWord c = c .history .forbidden + 256 * c .history .shown + 65536 * c .history .nominated
+
+-- CDS, CDF, the granted mark and the counter
+abbrev pub codesWord : Call → ℕ
+codesWord c = c .cds + 256 * c .cdf + 65536 * c .granted + 16777216 * c .counter
+
+-- the numbers of an incoming call, and its identifier
+abbrev pub numbersWord : Call → ℕ
+numbersWord c = c .own + 65536 * c .diverting + 4294967296 * c .original + 281474976710656 * c .identifier

@@ -1,6 +1,0 @@
-use Rattle.state.proofs.Numbers.{below-next}
-use Rattle.state.proofs.over_limit.Statement.{statement}
-use Rattle.state.proofs.over_limit.Tie as tie
-
-pub over-limit-spec : {M : Type 1} → statement M
-over-limit-spec = tie.close (tie.spec (λ c. rw (← below-next)))

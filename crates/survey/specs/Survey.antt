@@ -1,0 +1,58 @@
+-- What one walk notes of a table, from its last record to its first.
+use Prim.Native.Nat.{ℕ, suc, _+_, _/_, _%_, _^_}
+use mathlib.Core.Bool.{Bool, true, false, _&&_, _||_}
+use mathlib.Core.List.{List, [], _∷_}
+use lib.Dec.{eqb, ltb}
+use Rattle.ground.specs.Choice.{when_then_else_}
+use Rattle.call.specs.declared.Call.{Call}
+use Rattle.call.specs.Record.{isFree, requested}
+use Rattle.call.specs.Soundness.{soundCall}
+use Rattle.survey.specs.declared.Asked.{Asked}
+use Rattle.survey.specs.declared.Noted.{Noted}
+
+-- the mask has bit k
+abbrev pub has : ℕ → ℕ → Bool
+has mask k = eqb (mask / 2 ^ k % 2) 1
+
+-- the mask with bit k
+abbrev pub withBit : ℕ → ℕ → ℕ
+withBit mask k = when has mask k then mask else mask + 2 ^ k
+
+-- the bit that marks a record's identifier
+abbrev pub slot : Call → ℕ
+slot c = c .identifier % 64
+
+-- the lowest free place, with the record c at i before those that were seen
+abbrev pub freeWith : ℕ → Call → ℕ → ℕ
+freeWith free c i = when isFree c then i else free
+
+-- the lowest place whose request started before a time
+abbrev pub dueWith : ℕ → Call → ℕ → ℕ → ℕ
+dueWith due c i by = when requested c && ltb (c .start) by then i else due
+
+-- the marks of the open requests' identifiers
+abbrev pub marksWith : ℕ → Call → ℕ
+marksWith marks c = when requested c then withBit marks (slot c) else marks
+
+-- a mark was set twice
+abbrev pub clashWith : Bool → ℕ → Call → Bool
+clashWith clash marks c = when requested c then clash || has marks (slot c) else clash
+
+-- nothing was seen yet of a table of n
+abbrev pub unseenOf : ℕ → Noted
+unseenOf n = record { sound = true; clash = false; free = n; due = n; marks = 0 }
+
+-- what is noted with the record c at i
+abbrev pub notedOf : Asked → Noted → Call → ℕ → Noted
+notedOf q v c i = record {
+  sound = soundCall (q .last) c && v .sound;
+  clash = clashWith (v .clash) (v .marks) c;
+  free = freeWith (v .free) c i;
+  due = dueWith (v .due) c i (q .by);
+  marks = marksWith (v .marks) c;
+}
+
+-- what is noted of the records from the place i on, in a table of n
+unfoldable pub surveyOf : Asked → ℕ → ℕ → List Call → Noted
+surveyOf q n i [] = unseenOf n
+surveyOf q n i (c ∷ rest) = notedOf q (surveyOf q n (suc i) rest) c i

@@ -1,0 +1,161 @@
+// One walk over the records that a host lends, from the last to the first: what a step asks of the whole table, in a few numbers.
+ghost use mathlib.Core.Path.{_≡_};
+ghost use Prim.Native.Nat.{_^_, _≤_, _<_};
+ghost use lib.ListN.{length, take};
+ghost use Rattle.survey.specs.Survey.{has, withBit, slot, freeWith, dueWith, marksWith, clashWith, unseenOf, notedOf, surveyOf};
+ghost use Rattle.survey.specs.Column.{heldIn};
+use call::Call;
+
+// What is asked beside the table: the station's last time, and the time below which an open request's start is due.
+pub struct Asked {
+    pub last: u64,
+    pub by: u64,
+}
+
+// What is noted of the records from a place on. `marks` has a bit for the identifier (modulo 64) of each open request; `clash`
+// says that a bit was set twice.
+pub struct Noted {
+    pub sound: bool,
+    pub clash: bool,
+    pub free: usize,
+    pub due: usize,
+    pub marks: u64,
+}
+
+// A number with bit k alone.
+fn bit(k: u64) -> u64
+    requires { ⌜ k < 64 ⌝ }
+    ensures { λ r. ⌜ r ≡ 2 ^ k ⌝ }
+{
+    1u64 << k
+}
+
+// Whether a mask has bit k.
+fn has(mask: u64, k: u64) -> bool
+    requires { ⌜ k < 64 ⌝ }
+    ensures { λ r. ⌜ r ≡ has mask k ⌝ }
+{
+    (mask >> k) % 2 == 1
+}
+
+// A mask with bit k.
+fn with_bit(mask: u64, k: u64) -> u64
+    requires { ⌜ k < 64 ⌝ }
+    ensures { λ r. ⌜ r ≡ withBit mask k ⌝ }
+{
+    if has(mask, k) {
+        return mask;
+    }
+    mask + bit(k)
+}
+
+// The bit that marks an identifier.
+fn slot(c: Call) -> u64
+    ensures { λ r. ⌜ r ≡ slot c ⌝ }
+{
+    (c.identifier % 64) as u64
+}
+
+// The lowest free place from i on, where the one after i is given.
+fn free_with(free: usize, c: Call, i: usize) -> usize
+    ensures { λ r. ⌜ r ≡ freeWith free c i ⌝ }
+{
+    if c.direction == 0 { i } else { free }
+}
+
+// The lowest place from i on whose request started before a time.
+fn due_with(due: usize, c: Call, i: usize, by: u64) -> usize
+    ensures { λ r. ⌜ r ≡ dueWith due c i by ⌝ }
+{
+    if (c.cds == 1) & (c.start < by) {
+        i
+    } else {
+        due
+    }
+}
+
+// The marks of the open requests.
+fn marks_with(marks: u64, c: Call) -> u64
+    ensures { λ r. ⌜ r ≡ marksWith marks c ⌝ }
+{
+    if c.cds == 1 {
+        let k = slot(c);
+        return with_bit(marks, k);
+    }
+    marks
+}
+
+// Whether two open requests have one mark.
+fn clash_with(clash: bool, marks: u64, c: Call) -> bool
+    ensures { λ r. ⌜ r ≡ clashWith clash marks c ⌝ }
+{
+    if c.cds == 1 {
+        let k = slot(c);
+        let twice = has(marks, k);
+        return clash | twice;
+    }
+    clash
+}
+
+// Nothing was seen yet of a table of n.
+fn unseen(n: usize) -> Noted
+    ensures { λ r. ⌜ r ≡ unseenOf n ⌝ }
+{
+    Noted {
+        sound: true,
+        clash: false,
+        free: n,
+        due: n,
+        marks: 0,
+    }
+}
+
+// What is noted with the record at i.
+fn note(v: Noted, c: Call, i: usize, q: Asked) -> Noted
+    ensures { λ r. ⌜ r ≡ notedOf q v c i ⌝ }
+{
+    let well = sound::sound_call(c, q.last);
+    let clash = clash_with(v.clash, v.marks, c);
+    let free = free_with(v.free, c, i);
+    let due = due_with(v.due, c, i, q.by);
+    let marks = marks_with(v.marks, c);
+    Noted {
+        sound: well & v.sound,
+        clash: clash,
+        free: free,
+        due: due,
+        marks: marks,
+    }
+}
+
+// What is noted of the first n records of the table.
+pub fn survey(table: &[Call], n: usize, q: Asked) -> Noted
+    requires { ⌜ n ≤ length (now table) ⌝ }
+    ensures { λ r. ⌜ r ≡ surveyOf q n 0 (take n (now (table .entry))) ⌝ }
+{
+    let mut v = unseen(n);
+    let mut i = n;
+    while 0 < i {
+        let k = i - 1;
+        let c = table[k];
+        v = note(v, c, k, q);
+        i = k;
+    }
+    v
+}
+
+// The identifiers of the open requests among the first n records, copied out: each plus 1, and 0 where none is open.
+pub fn column(table: &[Call], n: usize) -> [u32; 64]
+    requires { ⌜ (n ≤ length (now table)) × (n ≤ 64) ⌝ }
+    ensures { λ r. ⌜ r ≡ heldIn n (now (table .entry)) ⌝ }
+{
+    let mut held = [0u32; 64];
+    let mut i = 0;
+    while i < n {
+        let c = table[i];
+        let id = notes::held_by(c);
+        held[i] = id;
+        i += 1;
+    }
+    held
+}

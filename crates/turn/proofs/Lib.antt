@@ -1,0 +1,4 @@
+pub mod Sorts
+pub mod Numbered
+pub mod Turns
+pub mod Laws

@@ -1,0 +1,153 @@
+-- The numbers of an event by its kind: an open, a clock event, an event on a call; and the code's order of the tests, which is the page's. Assumes nothing.
+use Prim.Native.Nat.{ℕ, _≤_, _<_}
+use mathlib.Core.Bool.{Bool, true, false, _&&_, _||_, not}
+use mathlib.Core.List.{List}
+use mathlib.Core.Path.{_≡_, refl, sym, ap, _∙_}
+use native.Mathlib.Omega.{arith}
+use borrow.Author.Tests.{ne-eqb, lt-ltb, le-ltb, ltb-true, ltb-false, eqb-true, eqb-false}
+use lib.Dec.{eqb, ltb, leb}
+use lib.ListN.{length}
+use Rattle.ground.specs.Choice.{when_then_else_}
+use Rattle.ground.specs.Lists.{first}
+use Rattle.ground.proofs.Bools.{by-cases}
+use Rattle.ground.proofs.Walks.{or-false}
+use Rattle.event.specs.declared.Event.{Event}
+use Rattle.event.specs.Kinds.{opens, ofIncoming, ofOutgoing, ends, diverts, answersRequest, clock}
+use Rattle.event.specs.WellMade.{wellMade}
+use Rattle.call.specs.declared.Call.{Call}
+use Rattle.call.specs.declared.Effect.{Effect}
+use Rattle.call.specs.Record.{isFree}
+use Rattle.call.specs.State.{stateForbids}
+use Rattle.call.specs.Incoming.{due, expired}
+use Rattle.call.specs.Act.{act, opened}
+use Rattle.station.specs.declared.Station.{Station}
+use Rattle.station.specs.Table.{at, place, identifierFor}
+use Rattle.station.specs.Refusals.{early, illMade, wrongCall, noSuchCall, notTaken, otherIdentifier, overLimit, noFreeRecord, refusalOnSound}
+use Rattle.station.specs.Step.{effectAt}
+use Rattle.event.proofs.Groups.{opener, no-opener, no-incoming, no-outgoing, past-incoming}
+use Rattle.turn.specs.declared.Seen.{Seen}
+use Rattle.turn.specs.Turn.{beyond, noCall, numberOf}
+use Rattle.turn.proofs.Sorts.{kind-low, kind-high, names}
+
+-- two tests with one number
+either : (a b : Bool) (x y : ℕ) → (when a || b then x else y) ≡ (when a then x else when b then x else y)
+either true b x y = refl
+either false b x y = refl
+
+-- numbers 4 to 7 where the event names a call, or 0
+abbrev pub namedRefusal : Station → Call → Event → ℕ
+namedRefusal s c e =
+    when wrongCall c e then 4 else
+    when stateForbids c e then 5 else
+    when otherIdentifier c e then 6 else
+    when overLimit s c e then 7 else
+    0
+
+-- the numbers, by what they are decided on: is the call that is named past the end, its record, is no record free
+abbrev pub numbers : Station → Event → Bool → Call → Bool → ℕ
+numbers s e far c full =
+    when early s e then 2 else
+    when illMade e then 3 else
+    when ((ofIncoming e || ofOutgoing e || ends e) && far) || wrongCall c e then 4 else
+    when stateForbids c e then 5 else
+    when otherIdentifier c e then 6 else
+    when overLimit s c e then 7 else
+    when opens e && full then 8 else
+    0
+
+pub by-table : (s : Station) (calls : List Call) (e : Event)
+    → refusalOnSound s calls e ≡ numbers s e (leb (length calls) (e .call)) (at calls (e .call)) (leb (length calls) (first isFree calls))
+unfolding refusalOnSound
+by-table s calls e = refl
+
+pub by-seen : (s : Station) (e : Event) (v : Seen) → numberOf s e v ≡ numbers s e (beyond v) (v .call) (beyond v)
+unfolding numberOf
+by-seen s e v = refl
+
+module _ (s : Station) (e : Event) (far : Bool) (c : Call) (full : Bool) where
+  pub numbers-early : e .time < s .last → numbers s e far c full ≡ 2
+  numbers-early h = rw (lt-ltb (e .time) (s .last) h)
+
+  module _ (h : s .last ≤ e .time) where
+    pub numbers-ill : wellMade e ≡ false → numbers s e far c full ≡ 3
+    numbers-ill w = rw (le-ltb (e .time) (s .last) h, w)
+
+    module _ (w : wellMade e ≡ true) where
+      -- an open is refused only where no record is free
+      pub numbers-open : e .kind < 4 → numbers s e far c full ≡ (when full then 8 else 0)
+      unfolding stateForbids
+      numbers-open k =
+          simp (
+            le-ltb (e .time) (s .last) h,
+            w,
+            no-incoming e k,
+            no-outgoing e (omega arith),
+            opener e (kind-low e w) k,
+            ne-eqb (e .kind) 11 (λ q. omega arith),
+            ne-eqb (e .kind) 7 (λ q. omega arith),
+            ne-eqb (e .kind) 8 (λ q. omega arith),
+            ne-eqb (e .kind) 6 (λ q. omega arith),
+          )
+
+      -- a clock event is never refused
+      pub numbers-clock : e .kind ≡ 10 → numbers s e far c full ≡ 0
+      unfolding stateForbids
+      numbers-clock k = rw (le-ltb (e .time) (s .last) h, w, k)
+
+      -- an event on a call
+      pub numbers-named : 4 ≤ e .kind → (e .kind ≡ 10 → ⊥) → numbers s e far c full ≡ (when far then 4 else namedRefusal s c e)
+      numbers-named k o =
+          simp (le-ltb (e .time) (s .last) h, w, names e k (kind-high e w) o, no-opener e k)
+          (either far (wrongCall c e) 4 _)
+
+-- the code's order, from 3 on: where the event finds no record of its own, its kind tells the number
+abbrev pub later : Station → Event → Seen → ℕ
+later s e v =
+    when not (wellMade e) then 3 else
+    when beyond v || wrongCall (v .call) e then noCall (e .kind) else
+    when stateForbids (v .call) e then 5 else
+    when otherIdentifier (v .call) e then 6 else
+    when overLimit s (v .call) e then 7 else
+    0
+
+same-two : (b : Bool) (n : ℕ) → (when b then n else n) ≡ n
+same-two true n = refl
+same-two false n = refl
+
+module _ (s : Station) (e : Event) (v : Seen) where
+  later-open : wellMade e ≡ true → e .kind < 4 → later s e v ≡ (when beyond v then 8 else 0)
+  unfolding stateForbids
+  later-open w k =
+      let l = kind-low e w in
+      simp (
+        w,
+        no-incoming e k,
+        no-outgoing e (omega arith),
+        or-false,
+        le-ltb (e .kind) 1 l,
+        lt-ltb (e .kind) 4 k,
+        ne-eqb (e .kind) 11 (λ q. omega arith),
+        ne-eqb (e .kind) 7 (λ q. omega arith),
+        ne-eqb (e .kind) 8 (λ q. omega arith),
+        ne-eqb (e .kind) 6 (λ q. omega arith),
+      )
+
+  later-clock : wellMade e ≡ true → e .kind ≡ 10 → later s e v ≡ 0
+  unfolding stateForbids
+  later-clock w k = rw (w, k) (same-two (beyond v || false) 0)
+
+  later-named : wellMade e ≡ true → 4 ≤ e .kind → (e .kind ≡ 10 → ⊥) → later s e v ≡ (when beyond v then 4 else namedRefusal s (v .call) e)
+  later-named w k o =
+      simp (w, le-ltb (e .kind) 1 (omega arith), le-ltb (e .kind) 4 k, ne-eqb (e .kind) 10 o)
+      (either (beyond v) (wrongCall (v .call) e) 4 _)
+
+  pub number-later : s .last ≤ e .time → later s e v ≡ numberOf s e v
+  number-later h =
+      by-cases (wellMade e) (λ w.
+      by-cases (ltb (e .kind) 4)
+      (λ t. let k = ltb-true (e .kind) 4 t in later-open w k ∙ sym (by-seen s e v ∙ numbers-open s e (beyond v) (v .call) (beyond v) h w k)) (λ n.
+      let k = ltb-false (e .kind) 4 n in
+      by-cases (eqb (e .kind) 10)
+      (λ t. let q = eqb-true (e .kind) 10 t in later-clock w q ∙ sym (by-seen s e v ∙ numbers-clock s e (beyond v) (v .call) (beyond v) h w q))
+      (λ f. let q = eqb-false (e .kind) 10 f in later-named w k q ∙ sym (by-seen s e v ∙ numbers-named s e (beyond v) (v .call) (beyond v) h w k q))))
+      (λ i. rw i (sym (by-seen s e v ∙ numbers-ill s e (beyond v) (v .call) (beyond v) h i)))

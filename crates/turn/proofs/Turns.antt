@@ -1,0 +1,157 @@
+-- A turn by its number, as the code finds it. Assumes nothing.
+use Prim.Native.Nat.{ℕ, _+_, _≤_, _<_}
+use mathlib.Core.Bool.{Bool, true, false, _&&_, _||_, not, false≢true}
+use mathlib.Core.Path.{_≡_, refl, sym, ap, _∙_}
+use native.Mathlib.Omega.{arith}
+use borrow.Author.Tests.{ltb-true, ltb-false, lt-ltb, le-leb, lt-leb, leb-true, leb-false, eqb-true, eqb-false, ne-eqb}
+use lib.Dec.{eqb, ltb, leb}
+use Rattle.ground.specs.Choice.{when_then_else_}
+use Rattle.ground.proofs.Bools.{by-cases}
+use Rattle.event.specs.declared.Event.{Event}
+use Rattle.event.specs.Kinds.{opens, ofIncoming, ofOutgoing, ends}
+use Rattle.event.specs.WellMade.{wellMade}
+use Rattle.call.specs.declared.Call.{Call}
+use Rattle.call.specs.declared.Effect.{Effect}
+use Rattle.call.specs.State.{stateForbids}
+use Rattle.call.specs.Act.{act}
+use Rattle.station.specs.declared.Station.{Station}
+use Rattle.station.specs.Refusals.{early, illMade, wrongCall, otherIdentifier, overLimit}
+use Rattle.turn.specs.declared.Seen.{Seen}
+use Rattle.turn.specs.declared.Turn.{Turn}
+use Rattle.turn.specs.declared.Turn.the-variants.{Refused, NoneDue, Done}
+use Rattle.turn.specs.Turn.{beyond, numberOf, turnOf}
+use Rattle.turn.proofs.Numbered.{by-seen, numbers-early, numbers-ill, numbers-open, numbers-named}
+
+-- a test was passed where the number is 0
+passed : (b : Bool) (k n : ℕ) → (when b then k else n) ≡ 0 → (k ≡ 0 → ⊥) → (b ≡ false) × (n ≡ 0)
+passed true k n q z = absurd (z q)
+passed false k n q z = (refl, q)
+
+first-two : (a b : Bool) (n : ℕ) → (when a then 2 else when b then 3 else n) ≡ 0 → (a ≡ false) × (b ≡ false)
+first-two true b n q = absurd (omega (arith, q))
+first-two false true n q = absurd (omega (arith, q))
+first-two false false n q = (refl, refl)
+
+not-false : (b : Bool) → not b ≡ false → b ≡ true
+not-false true q = refl
+not-false false q = sym q
+
+-- numbers 4 to 8
+abbrev from-4 : Station → Event → Seen → ℕ
+from-4 s e v =
+    when ((ofIncoming e || ofOutgoing e || ends e) && beyond v) || wrongCall (v .call) e then 4 else
+    when stateForbids (v .call) e then 5 else
+    when otherIdentifier (v .call) e then 6 else
+    when overLimit s (v .call) e then 7 else
+    when opens e && beyond v then 8 else
+    0
+
+module _ (s : Station) (e : Event) (v : Seen) where
+  -- refused before its number is looked for
+  pub turns-early : e .time < s .last → Refused 2 ≡ turnOf s e v
+  unfolding turnOf
+  turns-early h = rw (by-seen s e v ∙ numbers-early s e (beyond v) (v .call) (beyond v) h)
+
+  pub turns-ill : s .last ≤ e .time → wellMade e ≡ false → Refused 3 ≡ turnOf s e v
+  unfolding turnOf
+  turns-ill h w = rw (by-seen s e v ∙ numbers-ill s e (beyond v) (v .call) (beyond v) h w)
+
+  module _ (code : ℕ) (q : code ≡ numberOf s e v) where
+    pub turns-refused : (code ≡ 0 → ⊥) → Refused code ≡ turnOf s e v
+    unfolding turnOf
+    turns-refused z = rw (← q, ne-eqb code 0 z)
+
+    module _ (z : code ≡ 0) where
+      none : numberOf s e v ≡ 0
+      none = sym q ∙ z
+
+      pub turns-none : v .len ≤ v .place → NoneDue ≡ turnOf s e v
+      unfolding turnOf
+      turns-none l = rw (none, le-leb (v .len) (v .place) l)
+
+      pub turns-there : (x : Effect) → v .place < v .len → x ≡ act (v .call) e (v .identifier) → Done x ≡ turnOf s e v
+      unfolding turnOf
+      turns-there x l a = rw (none, lt-leb (v .len) (v .place) l, ← a)
+
+      by-two : (early s e ≡ false) × (illMade e ≡ false)
+      unfolding numberOf
+      by-two = first-two (early s e) (illMade e) (from-4 s e v) none
+
+      late : s .last ≤ e .time
+      late = ltb-false (e .time) (s .last) (by-two .0)
+
+      made : wellMade e ≡ true
+      made = not-false (wellMade e) (by-two .1)
+
+      -- only a clock event is done with no record of its own
+      there : (e .kind ≡ 10 → ⊥) → v .place < v .len
+      there o =
+          by-cases (leb (v .len) (v .place)) (λ t.
+          by-cases (ltb (e .kind) 4)
+          (λ k.
+          let n : numberOf s e v ≡ 8 = by-seen s e v ∙ numbers-open s e (beyond v) (v .call) (beyond v) late made (ltb-true (e .kind) 4 k) ∙ rw t in
+          absurd (omega (arith, n, none)))
+          (λ k.
+          let n : numberOf s e v ≡ 4 = by-seen s e v ∙ numbers-named s e (beyond v) (v .call) (beyond v) late made (ltb-false (e .kind) 4 k) o ∙ rw t in
+          absurd (omega (arith, n, none))))
+          (λ f. leb-false (v .len) (v .place) f)
+
+      pub turns-done : (x : Effect) → (e .kind ≡ 10 → ⊥) → x ≡ act (v .call) e (v .identifier) → Done x ≡ turnOf s e v
+      turns-done x o a = turns-there x (there o) a
+
+      -- a divert that is not refused is within the limit, so its counter has room for one more
+      pub room : s .limit < 256 → e .kind ≡ 6 → v .call .counter < 255
+      unfolding numberOf
+      room l k =
+          let n7 : ℕ = when opens e && beyond v then 8 else 0 in
+          let n6 : ℕ = when overLimit s (v .call) e then 7 else n7 in
+          let n5 : ℕ = when otherIdentifier (v .call) e then 6 else n6 in
+          let n4 : ℕ = when stateForbids (v .call) e then 5 else n5 in
+          let n2 : ℕ = when illMade e then 3 else from-4 s e v in
+          let a = passed (early s e) 2 n2 none (λ x. omega (arith, x)) in
+          let b = passed (illMade e) 3 (from-4 s e v) (a .1) (λ x. omega (arith, x)) in
+          let c = passed (((ofIncoming e || ofOutgoing e || ends e) && beyond v) || wrongCall (v .call) e) 4 n4 (b .1) (λ x. omega (arith, x)) in
+          let d = passed (stateForbids (v .call) e) 5 n5 (c .1) (λ x. omega (arith, x)) in
+          let f = passed (otherIdentifier (v .call) e) 6 n6 (d .1) (λ x. omega (arith, x)) in
+          let o : overLimit s (v .call) e ≡ false = passed (overLimit s (v .call) e) 7 n7 (f .1) (λ x. omega (arith, x)) .0 in
+          let m = ltb-false (s .limit) (v .call .counter + 1) (rw k at o) in
+          omega arith
+
+-- what a turn tells of its event
+abbrev numberIn : Turn → ℕ
+numberIn (Refused code) = code
+numberIn NoneDue = 0
+numberIn (Done x) = 0
+
+abbrev isRefused : Turn → Bool
+isRefused (Refused code) = true
+isRefused NoneDue = false
+isRefused (Done x) = false
+
+abbrev isDone : Turn → Bool
+isDone (Refused code) = false
+isDone NoneDue = false
+isDone (Done x) = true
+
+module _ (s : Station) (e : Event) (v : Seen) where
+  either-way : (b : Bool) (x : Effect) → isRefused (when b then NoneDue else Done x) ≡ false
+  either-way true x = refl
+  either-way false x = refl
+
+  -- a refusal has a number
+  pub refused-number : (code : ℕ) → turnOf s e v ≡ Refused code → code ≡ 0 → ⊥
+  unfolding turnOf
+  refused-number code q z =
+      by-cases (eqb (numberOf s e v) 0)
+      (λ t. false≢true (sym (either-way (beyond v) (act (v .call) e (v .identifier))) ∙ ap isRefused (rw t at q)))
+      (λ f. let n : numberOf s e v ≡ code = ap numberIn (rw f at q) in eqb-false (numberOf s e v) 0 f (n ∙ z))
+
+  -- what is done on a record is done on one of the table
+  pub done-there : (x : Effect) → turnOf s e v ≡ Done x → v .place < v .len
+  unfolding turnOf
+  done-there x q =
+      by-cases (eqb (numberOf s e v) 0) (λ t.
+      by-cases (beyond v)
+      (λ b. absurd (false≢true (ap isDone (rw (t, b) at q))))
+      (λ b. leb-false (v .len) (v .place) b))
+      (λ f. absurd (false≢true (ap isDone (rw f at q))))

@@ -1,0 +1,83 @@
+-- One event decided without the table: on what is seen of it. The order of the numbers is that of `station/specs/Refusals: refusalOnSound`.
+use Prim.Native.Nat.{ℕ, _≤_, _<_}
+use mathlib.Core.Bool.{Bool, true, _&&_, _||_, not}
+use mathlib.Core.List.{List}
+use mathlib.Core.Path.{_≡_}
+use lib.Dec.{ltb, leb, eqb}
+use lib.ListN.{length, set}
+use Rattle.ground.specs.Choice.{when_then_else_}
+use Rattle.event.specs.declared.Event.{Event}
+use Rattle.event.specs.Kinds.{opens, ofIncoming, ofOutgoing, ends, clock, diverts}
+use Rattle.identifier.specs.Identifier.{after}
+use Rattle.call.specs.declared.Call.{Call}
+use Rattle.call.specs.State.{stateForbids}
+use Rattle.call.specs.Act.{act}
+use Rattle.station.specs.declared.Station.{Station}
+use Rattle.station.specs.Station.{emptyAnswer}
+use Rattle.station.specs.Table.{at, place, identifierFor}
+use Rattle.station.specs.Refusals.{notSound, early, illMade, wrongCall, otherIdentifier, overLimit}
+use Rattle.station.specs.Step.{Outcome, refused, answerOf}
+use Rattle.turn.specs.declared.Seen.{Seen}
+use Rattle.turn.specs.declared.Turn.{Turn}
+use Rattle.turn.specs.declared.Turn.the-variants.{Refused, NoneDue, Done}
+
+-- where an event acts, from the lowest free place and the lowest due one
+abbrev pub placeOf : Event → ℕ → ℕ → ℕ
+placeOf e free due = when opens e then free else when clock e then due else e .call
+
+-- what an event needs of the table
+abbrev pub seenIn : Station → List Call → Event → Seen
+seenIn s calls e = record { len = length calls; place = place calls e; identifier = identifierFor s calls; call = at calls (place calls e) }
+
+-- the place is past the table's end: it has no such call, no free record, none that is due
+abbrev pub beyond : Seen → Bool
+beyond v = leb (v .len) (v .place)
+
+-- "Numbers of the answers, tested in this order": 2 to 8, or 0
+unfoldable pub numberOf : Station → Event → Seen → ℕ
+numberOf s e v =
+    when early s e then 2 else
+    when illMade e then 3 else
+    when ((ofIncoming e || ofOutgoing e || ends e) && beyond v) || wrongCall (v .call) e then 4 else
+    when stateForbids (v .call) e then 5 else
+    when otherIdentifier (v .call) e then 6 else
+    when overLimit s (v .call) e then 7 else
+    when opens e && beyond v then 8 else
+    0
+
+-- the number where an event finds no record of its own, by its kind: "8: kind 1 to 3: no free record", "4: call past the table's end"
+abbrev pub noCall : ℕ → ℕ
+noCall kind =
+    when ltb kind 1 then 4 else
+    when ltb kind 4 then 8 else
+    when eqb kind 10 then 0 else
+    4
+
+-- one event where the table was found sound
+unfoldable pub turnOf : Station → Event → Seen → Turn
+turnOf s e v =
+    when not (eqb (numberOf s e v) 0) then Refused (numberOf s e v) else
+    when beyond v then NoneDue else
+    Done (act (v .call) e (v .identifier))
+
+-- one event on any table
+unfoldable pub decidedOf : Station → List Call → Event → Turn
+decidedOf s calls e = when notSound s calls then Refused 1 else turnOf s e (seenIn s calls e)
+
+-- "the one after it is next"; "A done event makes its time the last time."
+abbrev pub stationOn : Station → Event → ℕ → Station
+stationOn s e identifier = record { last = e .time; next = when diverts e then after identifier else s .next; limit = s .limit }
+
+-- the outcome that a turn stands for
+abbrev pub outcomeOf : Station → List Call → Event → Seen → Turn → Outcome
+outcomeOf s calls e v (Refused code) = refused s calls code
+outcomeOf s calls e v NoneDue = record { answer = emptyAnswer 0; station = stationOn s e (v .identifier); calls = calls }
+outcomeOf s calls e v (Done x) = record { answer = answerOf (v .place) x; station = stationOn s e (v .identifier); calls = set calls (v .place) (x .call) }
+
+-- what is seen of a table tells enough: past the end any place will do, and any record; only a divert needs an identifier
+pub record Sees (s : Station) (calls : List Call) (e : Event) (v : Seen) : Type 0 where
+  pub size : v .len ≡ length calls
+  pub near : place calls e < length calls → v .place ≡ place calls e
+  pub far : length calls ≤ place calls e → length calls ≤ v .place
+  pub there : v .place < length calls → v .call ≡ at calls (v .place)
+  pub drawn : diverts e ≡ true → v .identifier ≡ identifierFor s calls

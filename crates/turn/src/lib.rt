@@ -1,0 +1,249 @@
+// One event on what a driver saw of its table: the numbers in their order, and what is done. No table stands here, so that
+// every driver has this one decision.
+ghost use mathlib.Core.Path.{_≡_};
+ghost use Prim.Native.Nat.{ℕ, _≤_};
+ghost use Rattle.station.specs.Step.{answerOf};
+ghost use Rattle.turn.specs.Turn.{placeOf, noCall, numberOf, turnOf, stationOn};
+use call::Call;
+use call::Effect;
+use event::Event;
+use station::Answer;
+use station::Station;
+
+// What an event needs of a table: its length, the place where the event acts (from the length on where there is none), the
+// identifier that a request would take, and the record at the place.
+pub struct Seen {
+    pub len: usize,
+    pub place: usize,
+    pub identifier: u16,
+    pub call: Call,
+}
+
+// What becomes of an event: refused, by its number; done with no call, where a clock event finds none due; done on the
+// record at its place.
+pub enum Turn {
+    Refused(u8),
+    NoneDue,
+    Done(Effect),
+}
+
+// Where an event acts, given the lowest free place and the lowest due one.
+pub fn place_of(e: Event, free: usize, due: usize) -> usize
+    ensures { λ r. ⌜ r ≡ placeOf e free due ⌝ }
+{
+    let kind = e.kind;
+    if (1 <= kind) & (kind <= 3) {
+        return free;
+    }
+    if kind == 10 {
+        return due;
+    }
+    e.call as usize
+}
+
+// "4: call past the table's end, .."; "8: kind 1 to 3: no free record"; a clock event with none due is done.
+fn no_call(kind: u8) -> u8
+    ensures { λ r. ⌜ r ≡ noCall kind ⌝ }
+{
+    match kind {
+        1..=3 => 8,
+        10 => 0,
+        _ => 4,
+    }
+}
+
+// "Numbers of the answers, tested in this order", from 3 on; 0 is done. The kind comes by itself: as a literal it lets the
+// compiler make each arm of `turned` a test of its own.
+fn number(kind: u8, s: Station, e: Event, seen: Seen) -> u8
+    requires { ⌜ (kind ≡ e .kind) × (s .last ≤ e .time) ⌝ }
+    ensures { λ r. ⌜ r ≡ numberOf s e seen ⌝ }
+{
+    let c = seen.call;
+    let beyond = seen.len <= seen.place;
+    let made = event::well_made(kind, e);
+    if !made {
+        return 3;
+    }
+    let wrong = refusal::wrong_call(kind, c, e);
+    if beyond | wrong {
+        return no_call(kind);
+    }
+    if refusal::state_forbids(kind, c, e) {
+        return 5;
+    }
+    if refusal::other_identifier(kind, c, e) {
+        return 6;
+    }
+    if refusal::over_limit(kind, s, c, e) {
+        return 7;
+    }
+    0
+}
+
+// One event where the table was found sound. Each arm returns, so that it stores its own result.
+pub fn turned(s: Station, e: Event, seen: Seen) -> Turn
+    ensures { λ r. ⌜ r ≡ turnOf s e seen ⌝ }
+{
+    let kind = e.kind;
+    let c = seen.call;
+    if e.time < s.last {
+        return Turn::Refused(2);
+    }
+    match kind {
+        // "1 open outgoing"
+        1 => {
+            let code = number(1, s, e, seen);
+            if code == 0 {
+                return Turn::Done(message::silent(outgoing::opened_outgoing(e)));
+            }
+            return Turn::Refused(code);
+        }
+        // "2 open incoming"
+        2 => {
+            let code = number(2, s, e, seen);
+            if code == 0 {
+                return Turn::Done(message::silent(incoming::opened_incoming(e)));
+            }
+            return Turn::Refused(code);
+        }
+        // "3 open incoming with divertingLegInformation2 (DLI2)"
+        3 => {
+            let code = number(3, s, e, seen);
+            if code == 0 {
+                return Turn::Done(message::silent(incoming::opened_incoming(e)));
+            }
+            return Turn::Refused(code);
+        }
+        // "4 user alerted"
+        4 => {
+            let code = number(4, s, e, seen);
+            if code == 0 {
+                return Turn::Done(incoming::alerted(c));
+            }
+            return Turn::Refused(code);
+        }
+        // "5 user answers"
+        5 => {
+            let code = number(5, s, e, seen);
+            if code == 0 {
+                return Turn::Done(incoming::answered(c, e));
+            }
+            return Turn::Refused(code);
+        }
+        // "6 divert"
+        6 => {
+            let code = number(6, s, e, seen);
+            if code == 0 {
+                return Turn::Done(incoming::diverted(c, e, seen.identifier));
+            }
+            return Turn::Refused(code);
+        }
+        // "7 callRerouting result"
+        7 => {
+            let code = number(7, s, e, seen);
+            if code == 0 {
+                return Turn::Done(incoming::granted(c));
+            }
+            return Turn::Refused(code);
+        }
+        // "8 callRerouting error or reject"
+        8 => {
+            let code = number(8, s, e, seen);
+            if code == 0 {
+                return Turn::Done(incoming::rejected(c));
+            }
+            return Turn::Refused(code);
+        }
+        // "9 cfnrDivertedLegFailed received"
+        9 => {
+            let code = number(9, s, e, seen);
+            if code == 0 {
+                return Turn::Done(incoming::rejected(c));
+            }
+            return Turn::Refused(code);
+        }
+        // "10 clock": with none due it is done too
+        10 => {
+            let code = number(10, s, e, seen);
+            if code == 0 {
+                if seen.len <= seen.place {
+                    return Turn::NoneDue;
+                }
+                return Turn::Done(incoming::expired(c));
+            }
+            return Turn::Refused(code);
+        }
+        // "11 own side ends the call"
+        11 => {
+            let code = number(11, s, e, seen);
+            if code == 0 {
+                return Turn::Done(legs::ended(c));
+            }
+            return Turn::Refused(code);
+        }
+        // "12 callRerouting invoke received"
+        12 => {
+            let code = number(12, s, e, seen);
+            if code == 0 {
+                return Turn::Done(outgoing::rerouted(c, e));
+            }
+            return Turn::Refused(code);
+        }
+        // "13 divertingLegInformation1 (DLI1) received"
+        13 => {
+            let code = number(13, s, e, seen);
+            if code == 0 {
+                return Turn::Done(outgoing::informed(c, e));
+            }
+            return Turn::Refused(code);
+        }
+        // "14 message on an outgoing call"
+        14 => {
+            let code = number(14, s, e, seen);
+            if code == 0 {
+                return Turn::Done(legs::messaged(c, e));
+            }
+            return Turn::Refused(code);
+        }
+        // "15 far end ends an incoming call"
+        15 => {
+            let code = number(15, s, e, seen);
+            if code == 0 {
+                return Turn::Done(message::freed());
+            }
+            return Turn::Refused(code);
+        }
+        _ => {
+            return Turn::Refused(3);
+        }
+    }
+}
+
+// The station after a done event: "the one after it is next", "A done event makes its time the last time."
+pub fn station_on(s: Station, e: Event, identifier: u16) -> Station
+    ensures { λ r. ⌜ r ≡ stationOn s e identifier ⌝ }
+{
+    let mut after = s;
+    after.last = e.time;
+    if e.kind == 6 {
+        after.next = identifier::next_after(identifier);
+        return after;
+    }
+    after
+}
+
+// What an event that is done on the record at i answers.
+pub fn answer_of(i: u8, x: Effect) -> Answer
+    ensures { λ r. ⌜ r ≡ answerOf i x ⌝ }
+{
+    let sent = x.sent;
+    Answer {
+        code: 0,
+        call: i,
+        sent: sent,
+        notice: x.notice,
+        number: x.number,
+        identifier: x.identifier,
+        counter: x.counter,
+    }
+}
