@@ -7,6 +7,8 @@
 pub mod check;
 pub mod difference;
 pub mod engine;
+pub mod exports;
+pub mod headers;
 pub mod hostile;
 pub mod memory;
 pub mod plans;
