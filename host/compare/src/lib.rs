@@ -10,6 +10,7 @@ pub mod engine;
 pub mod hostile;
 pub mod memory;
 pub mod plans;
+pub mod program;
 pub mod tables;
 pub mod wire;
 pub mod wrapped;
