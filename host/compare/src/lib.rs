@@ -12,6 +12,7 @@ pub mod headers;
 pub mod hostile;
 pub mod memory;
 pub mod plans;
+pub mod program;
 pub mod tables;
 pub mod wire;
 pub mod wrapped;
