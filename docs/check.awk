@@ -41,6 +41,7 @@ function learn(path,    part, n, stem) {
     if (path ~ /^crates\/[^\/]*$/) crate[part[2]] = 1
     else if (path ~ /\.antt$/) learn_module(path, part[2])
     else if (path ~ /^(crates|host|bench)\/.*\.(rt|rs)$/) learn_code(path, part)
+    else if (path ~ /^host\/include\/.*\.h$/) learn_header(path)
     else if (path ~ /\/Cargo\.toml$/) learn_package(path, part[1] "/" part[2])
 }
 
@@ -90,6 +91,17 @@ function learn_code(path, part,    module, folder, line, name, library) {
         if (library && line ~ /^ *pub (extern "C" )?fn /) public[part[2], name] = path
         if (library && line ~ /^ *pub extern "C" fn /) exported[part[2], name] = 1
     }
+    close(path)
+}
+
+# Numbers with a name: `#define NAME`, and `NAME =` in an enum.
+function learn_header(path,    line, name) {
+    while ((getline line < path) > 0)
+        for (; match(line, /(#define WHIPSAIL_[A-Z0-9_]+)|(WHIPSAIL_[A-Z0-9_]+ =)/); line = substr(line, RSTART + RLENGTH)) {
+            name = substr(line, RSTART, RLENGTH)
+            gsub(/#define | =/, "", name)
+            known[name] = 1
+        }
     close(path)
 }
 

@@ -1,7 +1,7 @@
 /* Who will ring tonight: a plan of five panels, rehearsed from each of them. */
 #include <stdio.h>
 
-#include "whipsail.h"
+#include "whipsail_text.h"
 
 static const uint16_t plan[] = {
     /* cfu, cfb, cfnr, marks */
@@ -14,20 +14,11 @@ static const uint16_t plan[] = {
 
 enum { NUMBERS = sizeof plan / sizeof plan[0] };
 
-static const char *ending(unsigned number) {
-    switch (number) {
-    case WHIPSAIL_RINGS: return "rings";
-    case WHIPSAIL_BUSY: return "busy";
-    case WHIPSAIL_AT_LIMIT: return "limit";
-    default: return "-";
-    }
-}
-
 int main(void) {
     for (uint16_t start = 1; start <= NUMBERS / 4; start++) {
         whipsail_rehearsed told = whipsail_rehearse(plan, NUMBERS, start);
         if (told.code == WHIPSAIL_DONE)
-            printf("0 %u %s %u\n", told.last, ending(told.ending), told.counter);
+            printf("0 %u %s %u\n", told.last, whipsail_ending_text(told.ending), told.counter);
         else
             printf("%u - - -\n", told.code);
     }

@@ -13,6 +13,7 @@
  *   W event                     replies one byte: well made
  *   F limit                     replies whipsail_made
  *   S                           replies whipsail_station
+ *   V                           replies the archive's format number, four bytes
  *   R count place bytes         replies whipsail_read
  *   P count from len start number.. lends len of the count numbers as a plan;
  *                               replies whipsail_rehearsed and all numbers */
@@ -147,6 +148,11 @@ static void fresh_short(void) {
     give(&station, sizeof station);
 }
 
+static void format(void) {
+    uint32_t number = whipsail_layout_linked();
+    give(&number, sizeof number);
+}
+
 static void command(void) {
     uint8_t letter;
     take(&letter, 1);
@@ -158,6 +164,7 @@ static void command(void) {
     case 'W': well_made(); break;
     case 'F': fresh(); break;
     case 'S': fresh_short(); break;
+    case 'V': format(); break;
     case 'R': read_event(); break;
     case 'P': rehearse(); break;
     default: stop("an unknown command");

@@ -3,7 +3,7 @@
 use std::path::Path;
 use std::process::Command;
 
-const PROGRAMS: [&str; 2] = ["../c/serve.c", "../c/layout.c"];
+const PROGRAMS: [&str; 3] = ["../c/serve.c", "../c/layout.c", "../c/texts.c"];
 const OTHERS: [&str; 3] = ["../c/build", "../kit", "../include"];
 const ARCHIVES: [&str; 2] = [
     "../../target/native/libwhipsail.a",

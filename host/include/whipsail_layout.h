@@ -1,5 +1,6 @@
 /* Where each field of whipsail.h lies, asserted when a host is compiled: a
- * compiler that lays a struct out in another way is refused.
+ * compiler that lays a struct out in another way is refused. And which layout this
+ * is: an archive of another one does not link.
  *
  * The numbers are checked, not copied: host/compare/tests/layout.rs holds them to
  * the structs of the crates (names, order and widths of all fields) and to the
@@ -7,6 +8,14 @@
  * take and hand back). */
 #ifndef WHIPSAIL_LAYOUT_H
 #define WHIPSAIL_LAYOUT_H
+
+/* The layout's number. It moves whenever a struct of these headers, what a function
+ * takes or hands back, or the meaning of a number that is given today changes; more
+ * kinds, codes and letters alone do not move it. With it move the function's name in
+ * crates/whipsail_layout, the link name in host/rust/src/raw.rs, and the list in
+ * host/compare/layouts (host/README.md). WHIPSAIL_FORMAT is the number of what is
+ * kept; it has its own places. */
+#define WHIPSAIL_LAYOUT_NUMBER 1
 
 /* SIZE(struct, bytes), then AT(struct, field, offset) for each field. */
 #define WHIPSAIL_LAYOUT(SIZE, AT)                                                                                      \
@@ -65,5 +74,36 @@ WHIPSAIL_HOLDS(sizeof(size_t) == 8, "a machine of 64 bits")
 #undef WHIPSAIL_SIZE
 #undef WHIPSAIL_AT
 #undef WHIPSAIL_HOLDS
+
+/* The archive exports a function with the layout's number in its name, and each
+ * file that includes this header refers to it by this header's number. Neither the
+ * compiler drops that reference nor, where `retain` is known (gcc 11, clang 13), a
+ * linker that drops unused sections. (A shared object may be linked all the same:
+ * then it does not load.) It takes 8 bytes. */
+#define WHIPSAIL_JOINED(name, number) name##number
+#define WHIPSAIL_NUMBERED(name, number) WHIPSAIL_JOINED(name, number)
+#define WHIPSAIL_LINKED WHIPSAIL_NUMBERED(whipsail_layout_, WHIPSAIL_LAYOUT_NUMBER)
+#if defined(__has_attribute)
+#if __has_attribute(retain)
+#define WHIPSAIL_STAYS __attribute__((used, retain))
+#endif
+#endif
+#ifndef WHIPSAIL_STAYS
+#define WHIPSAIL_STAYS __attribute__((used))
+#endif
+
+#ifdef __cplusplus
+extern "C" {
+#endif
+
+/* Hands back the archive's format number, WHIPSAIL_FORMAT. */
+uint32_t WHIPSAIL_LINKED(void);
+WHIPSAIL_STAYS static uint32_t (*const whipsail_layout_linked)(void) = WHIPSAIL_LINKED;
+
+#ifdef __cplusplus
+}
+#endif
+#undef WHIPSAIL_LINKED
+#undef WHIPSAIL_STAYS
 
 #endif

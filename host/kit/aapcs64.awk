@@ -7,7 +7,8 @@
 #     back; aarch64 takes it in a register of its own (sret), and hands nothing back
 #   up to 16 bytes: both have one or two 64-bit registers
 #
-# The text is read twice: first for the sizes of the results.
+# The text is read twice: first for the sizes of the results. The variable triple is
+# the target's name in full.
 
 # In NR == FNR the line `memmove(ptr %a0, ptr .., i64 SIZE` of the function
 # CRATE::NAME writes the result of the exported NAME.
@@ -28,7 +29,7 @@ NR == FNR {
 }
 
 /^target datalayout/ { next }
-/^target triple/ { print "target triple = \"aarch64-unknown-linux-gnu\""; next }
+/^target triple/ { print "target triple = \"" triple "\""; next }
 
 /^define / && !/^define internal/ {
     gsub(/byval\([^)]*\) /, "")

@@ -1,4 +1,4 @@
-//! Links the archive that `host/lib` has made; `WHIPSAIL_LIB` names another.
+//! Links the archive of the release or of `host/lib`; `WHIPSAIL_LIB` names another.
 
 use std::env;
 use std::path::PathBuf;
@@ -14,21 +14,23 @@ fn main() {
         let shown = archive.display();
         match is_named {
             true => panic!("WHIPSAIL_LIB is {shown}: no such file (give an absolute path)"),
-            false => panic!("no archive {shown}: run host/lib first"),
+            false => panic!("no archive {shown}: run host/lib, or name one by WHIPSAIL_LIB"),
         }
     };
     println!("cargo:rustc-link-search=native={}", folder.display());
     println!("cargo:rustc-link-lib=static:+verbatim={file}");
 }
 
-/// The proved archive is for x86-64; for another machine `host/lib` has
-/// compiled its module.
+/// In a release the archives stand beside this crate. In the repository `host/lib`
+/// makes them: the proved one is for x86-64, another machine's of its module.
 fn made_here() -> PathBuf {
     let machine = env::var("CARGO_CFG_TARGET_ARCH").expect("cargo names the machine");
-    let folder = match machine.as_str() {
-        "x86_64" => "staticlib",
-        _ => "native",
-    };
     let root = PathBuf::from(env::var_os("CARGO_MANIFEST_DIR").expect("cargo names the folder"));
-    root.join("../../target").join(folder).join("libwhipsail.a")
+    let released = root.join("../lib");
+    let folder = match machine.as_str() {
+        _ if released.is_dir() => released.join(machine),
+        "x86_64" => root.join("../../target/staticlib"),
+        _ => root.join("../../target/native"),
+    };
+    folder.join("libwhipsail.a")
 }

@@ -21,17 +21,26 @@ use Rattle.station.specs.declared.Station.{Station}
 use Rattle.station.specs.Station.{emptyAnswer, stationOk}
 use Rattle.station.specs.Table.{requestsOf, sound}
 use Rattle.station.specs.Step.{refused, answerOf}
+use Rattle.sound.specs.Bounds.{inBounds}
 use Rattle.board.specs.declared.Board.{Board}
-use Rattle.board.specs.Board.{tableOf, putBack, soundBoard, refusedBoard, noneDueBoard, doneBoard, within}
+use Rattle.board.specs.Board.{Stepped, tableOf, putBack, soundBoard, within}
+
+-- refused: the board stays
+abbrev pub refusedBoard : Board → ℕ → Stepped
+refusedBoard b code = record { answer = emptyAnswer code; board = b }
+
+-- a clock event with none due
+abbrev pub noneDueBoard : Board → Station → Stepped
+noneDueBoard b s = record { answer = emptyAnswer 0; board = record { station = s; len = b .len; calls = b .calls } }
+
+-- done: the record at a place is replaced by its effect
+abbrev pub doneBoard : Board → Station → ℕ → Effect → Stepped
+doneBoard b s i x = record { answer = answerOf i x; board = record { station = s; len = b .len; calls = set (b .calls) i (x .call) } }
 
 pub table-long : (n : ℕ) (calls : List Call) → n ≤ 64 → length calls ≡ 64 → length (take n calls) ≡ n
 table-long n calls h e = omega (arith, length-take n calls)
 
--- the bounds of the length and the station
-abbrev pub bounds : ℕ → Station → Bool
-bounds len s = (leb 1 len && leb len 64) && stationOk s
-
-pub short : (len : ℕ) (s : Station) (t : Bool) → t ≡ bounds len s → t ≡ true → len ≤ 64
+pub short : (len : ℕ) (s : Station) (t : Bool) → t ≡ inBounds len (s .limit) (s .next) → t ≡ true → len ≤ 64
 short len s t q z =
     let w = both (leb 1 len && leb len 64) (stationOk s) (sym q ∙ z) in
     leb-true len 64 (both (leb 1 len) (leb len 64) (w .0) .1)
@@ -41,7 +50,7 @@ abbrev pub soundRecords : ℕ → List Call → Bool
 soundRecords last calls = all (soundCall last) calls && distinct (requestsOf calls)
 
 pub sound-parts : (s : Station) (calls : List Call) (len : ℕ) → len ≤ 64 → length calls ≡ 64
-    → sound s (take len calls) ≡ bounds len s && soundRecords (s .last) (take len calls)
+    → sound s (take len calls) ≡ inBounds len (s .limit) (s .next) && soundRecords (s .last) (take len calls)
 unfolding sound
 sound-parts s calls len h e = rw (table-long len calls h e) (regroup (leb 1 len && leb len 64) (stationOk s) (soundRecords (s .last) (take len calls)))
   where
@@ -50,13 +59,13 @@ sound-parts s calls len h e = rw (table-long len calls h e) (regroup (leb 1 len 
     regroup false b c = refl
 
 -- the test behind number 1, in the order of the code
-pub board-tested : (b : Board) (t r : Bool) → length (b .calls) ≡ 64 → t ≡ bounds (b .len) (b .station) → t ≡ true
+pub board-tested : (b : Board) (t r : Bool) → length (b .calls) ≡ 64 → t ≡ inBounds (b .len) (b .station .limit) (b .station .next) → t ≡ true
     → r ≡ soundRecords (b .station .last) (tableOf b) → r ≡ soundBoard b
 board-tested b t r e q z p =
     let h = short (b .len) (b .station) t q z in
     sym (rw (le-ltb 64 (b .len) h) (sound-parts (b .station) (b .calls) (b .len) h e ∙ rw (← q, z, ← p)))
 
-pub board-unfit : (b : Board) (t : Bool) → length (b .calls) ≡ 64 → t ≡ bounds (b .len) (b .station) → t ≡ false → false ≡ soundBoard b
+pub board-unfit : (b : Board) (t : Bool) → length (b .calls) ≡ 64 → t ≡ inBounds (b .len) (b .station .limit) (b .station .next) → t ≡ false → false ≡ soundBoard b
 board-unfit b t e q z =
     by-cases (ltb 64 (b .len)) (λ l. rw l) (λ l.
     sym (rw l (sound-parts (b .station) (b .calls) (b .len) (ltb-false 64 (b .len) l) e ∙ rw (← q, z))))

@@ -25,8 +25,8 @@ use Rattle.turn.specs.Turn.{placeOf, turnOf, stationOn, outcomeOf, Sees}
 use Rattle.turn.proofs.Turns.{refused-number, done-there}
 use Rattle.turn.proofs.Laws.{turn-steps}
 use Rattle.board.specs.declared.Board.{Board}
-use Rattle.board.specs.Board.{tableOf, putBack, soundBoard, stepBoard, stepSoundBoard, refusedBoard, noneDueBoard, doneBoard}
-use Rattle.board.proofs.Boards.{back-refused, back-none, back-done}
+use Rattle.board.specs.Board.{tableOf, putBack, soundBoard, stepBoard, stepSoundBoard}
+use Rattle.board.proofs.Boards.{refusedBoard, noneDueBoard, doneBoard, back-refused, back-none, back-done}
 use Rattle.board.proofs.Sees.{sees-notes}
 use Rattle.board.proofs.Beside.{Beside}
 

@@ -3,16 +3,14 @@ use Prim.Native.Nat.{ℕ}
 use mathlib.Core.Bool.{Bool, _&&_, not}
 use mathlib.Core.List.{List, _++_}
 use lib.Dec.{ltb}
-use lib.ListN.{take, drop, set}
+use lib.ListN.{take, drop}
 use Rattle.ground.specs.Choice.{when_then_else_}
 use Rattle.event.specs.declared.Event.{Event}
 use Rattle.call.specs.declared.Call.{Call}
-use Rattle.call.specs.declared.Effect.{Effect}
-use Rattle.station.specs.declared.Station.{Station}
 use Rattle.station.specs.declared.Answer.{Answer}
 use Rattle.station.specs.Station.{emptyAnswer}
 use Rattle.station.specs.Table.{sound}
-use Rattle.station.specs.Step.{Outcome, answerOf, step, stepOnSound}
+use Rattle.station.specs.Step.{Outcome, step, stepOnSound}
 use Rattle.board.specs.declared.Board.{Board}
 
 -- the answer to an event, and the board after it
@@ -43,18 +41,6 @@ stepSoundBoard b e = putBack b (stepOnSound (b .station) (tableOf b) e)
 
 abbrev pub soundBoard : Board → Bool
 soundBoard b = not (ltb 64 (b .len)) && sound (b .station) (tableOf b)
-
--- refused: the board stays
-abbrev pub refusedBoard : Board → ℕ → Stepped
-refusedBoard b code = record { answer = emptyAnswer code; board = b }
-
--- a clock event with none due
-abbrev pub noneDueBoard : Board → Station → Stepped
-noneDueBoard b s = record { answer = emptyAnswer 0; board = record { station = s; len = b .len; calls = b .calls } }
-
--- done: the record at a place is replaced by its effect
-abbrev pub doneBoard : Board → Station → ℕ → Effect → Stepped
-doneBoard b s i x = record { answer = answerOf i x; board = record { station = s; len = b .len; calls = set (b .calls) i (x .call) } }
 
 -- a place of the table, or 0
 abbrev pub within : ℕ → ℕ → ℕ

@@ -40,15 +40,10 @@ pub fn place_on(e: Event, free: u64, soon: u64, dues: &[u64; 64]) -> usize
     requires { ⌜ (length (now dues) ≡ 64) × (all (atLeast soon) (now dues) ≡ true) ⌝ }
     ensures { λ r. ⌜ r ≡ placeOf e (trailingZeros 64 free) (first (under (e .time)) (now (dues .entry))) ⌝ }
 {
-    let kind = e.kind;
-    let time = e.time;
-    if (1 <= kind) & (kind <= 3) {
-        return notes::lowest(free);
+    if e.kind == 10 {
+        return notes::due_at(dues, soon, e.time);
     }
-    if kind == 10 {
-        return notes::due_at(dues, soon, time);
-    }
-    e.call as usize
+    turn::place_of(e, notes::lowest(free), 64)
 }
 
 // The place, or 0 where the table has no such record: what is read there is not looked at.

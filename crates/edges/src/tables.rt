@@ -13,7 +13,7 @@ use crate::show::on;
 use crate::show::say;
 use call::Call;
 
-// "table empty, over 64 records"; the table's end is the lent length.
+// "table empty, over 64 records"; the table's end is the board's length.
 pub fn lengths() {
     say(b"# lengths 0, 65, 64, 1\n");
     let mut s = fresh();

@@ -3,7 +3,7 @@ use Prim.Native.Nat.{ℕ}
 use mathlib.Core.Bool.{Bool, _&&_, _||_, not}
 use lib.Dec.{leb, eqb}
 use Rattle.event.specs.declared.Event.{Event}
-use Rattle.event.specs.Kinds.{noDli3, forbidden, FACILITY, RELEASE-COMPLETE, facility, releaseComplete, OpenOutgoing, OpenIncoming, OpenWithDli2, UserAlerted, UserAnswers, DivertCall, ReroutingResult, ReroutingError, DivertedLegFailed, Clock, OwnSideEnds, ReroutingInvoke, Dli1Received, OutgoingMessage, FarEndEnds}
+use Rattle.event.specs.Kinds.{cfu, cfnr, withNumber, noDli3, allowed, forbidden, FACILITY, RELEASE-COMPLETE, facility, releaseComplete, OpenOutgoing, OpenIncoming, OpenWithDli2, UserAlerted, UserAnswers, DivertCall, ReroutingResult, ReroutingError, DivertedLegFailed, Clock, OwnSideEnds, ReroutingInvoke, Dli1Received, OutgoingMessage, FarEndEnds}
 
 -- "1 open outgoing: first: party, not 0"; "2 open incoming: first: own number, not 0"
 abbrev pub openFields : Event → Bool
@@ -14,7 +14,7 @@ openFields e =
 -- "3: first not 0; reason 0 to 3; counter 1 to 15; second diverting, third original called, each may be absent"
 abbrev pub openDivertedFields : Event → Bool
 openDivertedFields e =
-    eqb (e .call) 0 && eqb (e .leg) 0 && eqb (e .message) 0 && leb (e .reason) 3 && eqb (e .option) 0 && leb 1 (e .counter)
+    eqb (e .call) 0 && eqb (e .leg) 0 && eqb (e .message) 0 && leb (e .reason) cfnr && eqb (e .option) 0 && leb 1 (e .counter)
     && leb (e .counter) 15 && eqb (e .flag) 0 && eqb (e .identifier) 0 && not (eqb (e .first) 0)
 
 -- "4 user alerted", "9 cfnrDivertedLegFailed received", "11 own side ends the call", "15 far end ends an incoming call": "call"
@@ -26,13 +26,13 @@ callOnly e =
 -- "5 user answers: call; flag 0 or 1 presentation allowed"
 abbrev pub answerFields : Event → Bool
 answerFields e =
-    eqb (e .leg) 0 && eqb (e .message) 0 && eqb (e .reason) 0 && eqb (e .option) 0 && eqb (e .counter) 0 && leb (e .flag) 1
+    eqb (e .leg) 0 && eqb (e .message) 0 && eqb (e .reason) 0 && eqb (e .option) 0 && eqb (e .counter) 0 && leb (e .flag) allowed
     && eqb (e .identifier) 0 && eqb (e .first) 0 && eqb (e .second) 0 && eqb (e .third) 0
 
 -- "6 divert: call; reason 1 to 3; option 0 to 2; second: destination, not 0"
 abbrev pub divertFields : Event → Bool
 divertFields e =
-    eqb (e .leg) 0 && eqb (e .message) 0 && leb 1 (e .reason) && leb (e .reason) 3 && leb (e .option) 2 && eqb (e .counter) 0
+    eqb (e .leg) 0 && eqb (e .message) 0 && leb cfu (e .reason) && leb (e .reason) cfnr && leb (e .option) withNumber && eqb (e .counter) 0
     && eqb (e .flag) 0 && eqb (e .identifier) 0 && eqb (e .first) 0 && not (eqb (e .second) 0) && eqb (e .third) 0
 
 -- "7, 8 callRerouting result; error or reject: call; identifier"; document 02, Three: "a kind 7 or 8 event with identifier 0 is 3"
@@ -51,13 +51,13 @@ clockFields e =
 -- second: destination, not 0; third: original called or 0"; document 02, Three: "Received invokes may still bear 0"
 abbrev pub reroutingFields : Event → Bool
 reroutingFields e =
-    leb 1 (e .leg) && leb (e .leg) 2 && eqb (e .message) 0 && leb 1 (e .reason) && leb (e .reason) 3 && leb (e .option) 2
+    leb 1 (e .leg) && leb (e .leg) 2 && eqb (e .message) 0 && leb cfu (e .reason) && leb (e .reason) cfnr && leb (e .option) withNumber
     && leb 1 (e .counter) && leb (e .counter) 15 && eqb (e .flag) 0 && eqb (e .first) 0 && not (eqb (e .second) 0)
 
 -- "13 divertingLegInformation1 (DLI1) received: call; reason 0 to 3; option 0 to 2; second: nominated number, not 0"
 abbrev pub dli1Fields : Event → Bool
 dli1Fields e =
-    eqb (e .leg) 0 && eqb (e .message) 0 && leb (e .reason) 3 && leb (e .option) 2 && eqb (e .counter) 0 && eqb (e .flag) 0
+    eqb (e .leg) 0 && eqb (e .message) 0 && leb (e .reason) cfnr && leb (e .option) withNumber && eqb (e .counter) 0 && eqb (e .flag) 0
     && eqb (e .identifier) 0 && eqb (e .first) 0 && not (eqb (e .second) 0) && eqb (e .third) 0
 
 -- "14 message on an outgoing call: call; leg 1 or 2; message 1 FACILITY, 2 ALERTING, 3 CONNECT, 4 RELEASE COMPLETE;

@@ -117,7 +117,7 @@ fn taken_over(c: Call, e: Event) -> Effect
 }
 
 // "CONNECT on leg 1: .. CDR Idle."
-fn settled_leg(c: Call, e: Event) -> Call
+fn after_connect(c: Call, e: Event) -> Call
     ensures { λ r. ⌜ r ≡ (when connect e then cdrIdle c else c) ⌝ }
 {
     if e.message == 3 { cdr_idle(c) } else { c }
@@ -140,8 +140,8 @@ fn on_first_leg(c: Call, e: Event) -> Effect
 {
     let sent = first_leg_sent(c, e);
     let number = number_for(c, e);
-    let settled = settled_leg(c, e);
-    let heard = with_dli3(settled, e);
+    let connected = after_connect(c, e);
+    let heard = with_dli3(connected, e);
     let d = after_message(e, heard);
     Effect {
         call: d,

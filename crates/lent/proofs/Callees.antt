@@ -28,13 +28,14 @@ use denote.Triple.Statement.{Contract}
 use denote.Triple.Clauses.{ensured, lasts}
 use denote.Triple.Walked.{says}
 use Rattle.call.specs.declared.Call.{Call}
-use Rattle.slice.specs.Table.{fitOf, recordAt}
+use Rattle.station.specs.Table.{at as record-of}
+use Rattle.slice.specs.Table.{fitOf}
 use Rattle.slice.proofs.Bounds.{fit-le}
 use Rattle.slice.proofs.Row.{R, vals, makes, tells}
 use Rattle.survey.specs.declared.Asked.{Asked}
 use Rattle.survey.specs.declared.Noted.{Noted}
 use Rattle.survey.specs.Survey.{surveyOf}
-use Rattle.survey.specs.Column.{heldIn}
+use Rattle.notes.specs.Notes.{columnOf}
 use Rattle.survey.proofs.Cells.{AU}
 use Rattle.survey.proofs.Asked as Q
 use Rattle.survey.proofs.Asked.Laws as Q′
@@ -147,14 +148,14 @@ module _ {M : Type 1} (𝓤 : URA M) (H : Heap 𝓤) (A : Atoms 𝓤) (mem : Mem
   pub place-of : (v : Noted) (input : Input) (t : ℕ) → ent 𝓤 (ensured 𝓤 H A place.ended (place.clauses 𝓤 H A mem run) tt (v, (input, tt)) tt t) (fact 𝓤 (t ≡ placeSeen v input))
   place-of v input t = exE 𝓤 _ (λ ws. snd∗ 𝓤 (sem 𝓤 H A (lasts place.ended tt (v, (input, tt)) ws)) (fact 𝓤 (t ≡ placeSeen v input)))
 
-  pub read-of : (κ : Lft) (x : RefT (List Call)) (n : ℕ) (i : ℕ) (t : Call) → ent 𝓤 (ensured 𝓤 H A read.ended (read.clauses 𝓤 H A mem run) (κ, tt) (x, (n, (i, tt))) tt t) (fact 𝓤 (t ≡ recordAt (take n (x .now)) i))
-  read-of κ x n i t = exE 𝓤 _ (λ ws. snd∗ 𝓤 (sem 𝓤 H A (lasts read.ended (κ, tt) (x, (n, (i, tt))) ws)) (fact 𝓤 (t ≡ recordAt (take n (x .now)) i)))
+  pub read-of : (κ : Lft) (x : RefT (List Call)) (n : ℕ) (i : ℕ) (t : Call) → ent 𝓤 (ensured 𝓤 H A read.ended (read.clauses 𝓤 H A mem run) (κ, tt) (x, (n, (i, tt))) tt t) (fact 𝓤 (t ≡ record-of (take n (x .now)) i))
+  read-of κ x n i t = exE 𝓤 _ (λ ws. snd∗ 𝓤 (sem 𝓤 H A (lasts read.ended (κ, tt) (x, (n, (i, tt))) ws)) (fact 𝓤 (t ≡ record-of (take n (x .now)) i)))
 
   pub wants-of : (v : Noted) (input : Input) (t : Bool) → ent 𝓤 (ensured 𝓤 H A wants.ended (wants.clauses 𝓤 H A mem run) tt (v, (input, tt)) tt t) (fact 𝓤 (t ≡ wantsColumn v input))
   wants-of v input t = exE 𝓤 _ (λ ws. snd∗ 𝓤 (sem 𝓤 H A (lasts wants.ended tt (v, (input, tt)) ws)) (fact 𝓤 (t ≡ wantsColumn v input)))
 
-  pub column-of : (κ : Lft) (x : RefT (List Call)) (n : ℕ) (t : List ℕ) → ent 𝓤 (ensured 𝓤 H A column.ended (column.clauses 𝓤 H A mem run) (κ, tt) (x, (n, tt)) tt t) (fact 𝓤 (t ≡ heldIn n (x .now)))
-  column-of κ x n t = exE 𝓤 _ (λ ws. snd∗ 𝓤 (sem 𝓤 H A (lasts column.ended (κ, tt) (x, (n, tt)) ws)) (fact 𝓤 (t ≡ heldIn n (x .now))))
+  pub column-of : (κ : Lft) (x : RefT (List Call)) (n : ℕ) (t : List ℕ) → ent 𝓤 (ensured 𝓤 H A column.ended (column.clauses 𝓤 H A mem run) (κ, tt) (x, (n, tt)) tt t) (fact 𝓤 (t ≡ columnOf n (x .now)))
+  column-of κ x n t = exE 𝓤 _ (λ ws. snd∗ 𝓤 (sem 𝓤 H A (lasts column.ended (κ, tt) (x, (n, tt)) ws)) (fact 𝓤 (t ≡ columnOf n (x .now))))
 
   pub from-column-of : (input : Input) (v : Noted) (held : List ℕ) (t : Pick) → ent 𝓤 (ensured 𝓤 H A from-column.ended (from-column.clauses 𝓤 H A mem run) tt (input, (v, (held, tt))) tt t) (fact 𝓤 (t ≡ fromColumn input v held))
   from-column-of input v held t = exE 𝓤 _ (λ ws. snd∗ 𝓤 (sem 𝓤 H A (lasts from-column.ended tt (input, (v, (held, tt))) ws)) (fact 𝓤 (t ≡ fromColumn input v held)))

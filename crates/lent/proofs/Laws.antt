@@ -21,18 +21,18 @@ use Rattle.call.specs.Soundness.{soundCall}
 use Rattle.call.specs.Act.{act}
 use Rattle.station.specs.declared.Station.{Station}
 use Rattle.station.specs.Station.{stationOk}
-use Rattle.station.specs.Table.{place, sound, soundTable, requestsOf, identifierFor}
+use Rattle.station.specs.Table.{at, place, sound, soundTable, requestsOf, identifierFor}
 use Rattle.station.specs.Step.{step}
-use Rattle.slice.specs.Table.{fitOf, recordAt, settledAt}
+use Rattle.sound.specs.Bounds.{inBounds}
+use Rattle.slice.specs.Table.{fitOf, settledAt}
 use Rattle.slice.proofs.Bounds.{fit-short, fit-long}
 use Rattle.notes.specs.Mask.{over}
-use Rattle.notes.specs.Notes.{identifierIn, frees}
+use Rattle.notes.specs.Notes.{identifierIn, frees, columnOf}
 use Rattle.notes.proofs.Held.{held-free, requests-over}
 use Rattle.table.specs.Column.{apartIn}
-use Rattle.table.proofs.Columns.{apart-distinct}
+use Rattle.table.proofs.Columns.{column-apart}
 use Rattle.survey.specs.declared.Noted.{Noted}
 use Rattle.survey.specs.Survey.{surveyOf}
-use Rattle.survey.specs.Column.{heldIn}
 use Rattle.survey.proofs.Laws.{survey-sound, survey-free, survey-due, survey-clash}
 use Rattle.turn.specs.declared.Seen.{Seen}
 use Rattle.turn.specs.declared.Turn.{Turn}
@@ -41,7 +41,7 @@ use Rattle.turn.specs.Turn.{seenIn, beyond, numberOf, turnOf, decidedOf, statio
 use Rattle.turn.proofs.Laws.{sees-in, same-station, turn-same, decided-steps}
 use Rattle.lent.specs.declared.Input.{Input}
 use Rattle.lent.specs.declared.Pick.{Pick}
-use Rattle.lent.specs.Lent.{unchangedAs, decisionOf, decisionOn, outcomeBy, askedOf, placeSeen, wantsColumn, fromColumn, asItStands, pickedOf, inBounds, seenBy, decisionBy}
+use Rattle.lent.specs.Lent.{unchangedAs, decisionOf, decisionOn, outcomeBy, askedOf, placeSeen, wantsColumn, fromColumn, asItStands, pickedOf, seenBy, decisionBy}
 
 -- what was seen, with the place as the code holds it
 abbrev seenAt : ℕ → ℕ → Pick → Call → Seen
@@ -115,13 +115,13 @@ module _ (s : Station) (calls : List Call) (e : Event) where
         turned false = refl
 
 -- ---- what the code of `decided_on` found comes to
-module _ (input : Input) (v : Noted) (n : ℕ) (p : Pick) (c : Call) (fit : Bool) (bounds : fit ≡ inBounds n (input .station)) where
+module _ (input : Input) (v : Noted) (n : ℕ) (p : Pick) (c : Call) (fit : Bool) (bounds : fit ≡ inBounds n (input .station .limit) (input .station .next)) where
   pub by-refusal : not (fit && v .sound && p .apart) ≡ true → unchangedAs 1 (input .station) ≡ decisionBy input v n p c
-  by-refusal h = rw (denied (fit && v .sound && p .apart) (inBounds n (input .station) && v .sound && p .apart) (rw bounds) h)
+  by-refusal h = rw (denied (fit && v .sound && p .apart) (inBounds n (input .station .limit) (input .station .next) && v .sound && p .apart) (rw bounds) h)
 
   module _ (i : ℕ) (placed : i ≡ placeSeen v input) (t : Turn) (turns : turnOf (input .station) (input .event) (seenAt n i p c) ≡ t) where
     pub by-turn : not (fit && v .sound && p .apart) ≡ false → decisionOf (input .station) (input .event) (seenAt n i p c) t ≡ decisionBy input v n p c
-    by-turn h = rw (upheld (fit && v .sound && p .apart) (inBounds n (input .station) && v .sound && p .apart) (rw bounds) h, ← turns, placed)
+    by-turn h = rw (upheld (fit && v .sound && p .apart) (inBounds n (input .station .limit) (input .station .next) && v .sound && p .apart) (rw bounds) h, ← turns, placed)
 
     -- the place of a record that changes has room in a byte
     pub there : There (seenAt n i p c) t
@@ -129,7 +129,7 @@ module _ (input : Input) (v : Noted) (n : ℕ) (p : Pick) (c : Call) (fit : Bool
 
 -- ---- and of `picked`, by its test t
 module _ (input : Input) (v : Noted) (n : ℕ) (ys : List Call) (t : Bool) (test : t ≡ wantsColumn v input) where
-  pub picked-wanted : T t → (h : List ℕ) → h ≡ heldIn n ys → (p : Pick) → p ≡ fromColumn input v h → p ≡ pickedOf input v n ys
+  pub picked-wanted : T t → (h : List ℕ) → h ≡ columnOf n ys → (p : Pick) → p ≡ fromColumn input v h → p ≡ pickedOf input v n ys
   picked-wanted w h q p e = e ∙ rw (← test, is-true t w, q)
 
   pub picked-else : T (not t) → (p : Pick) → p ≡ asItStands input → p ≡ pickedOf input v n ys
@@ -164,11 +164,11 @@ module _ (input : Input) (ys : List Call) where
   same-place : placeSeen Whole input ≡ place ys e
   same-place = rw (free-place, due-place)
 
-  column-drawn : diverts e ≡ true → identifierIn e (heldIn (length ys) ys) (s .next) ≡ identifierFor s ys
+  column-drawn : diverts e ≡ true → identifierIn e (columnOf (length ys) ys) (s .next) ≡ identifierFor s ys
   column-drawn d = rw d (held-free 65 (over (length ys) ys frees) (s .next) ∙ rw (requests-over (length ys) ys, take-length ys))
 
-  column-apart : apartIn (heldIn (length ys) ys) ≡ distinct (requestsOf ys)
-  column-apart = apart-distinct (over (length ys) ys frees) ∙ rw (requests-over (length ys) ys, take-length ys)
+  all-apart : apartIn (columnOf (length ys) ys) ≡ distinct (requestsOf ys)
+  all-apart = column-apart (length ys) ys ∙ rw (take-length ys)
 
   no-clash : Whole .clash ≡ false → true ≡ distinct (requestsOf ys)
   no-clash f = sym (survey-clash (askedOf input) (length ys) 0 ys f)
@@ -177,13 +177,13 @@ module _ (input : Input) (ys : List Call) where
   chosen-apart : Chosen .apart ≡ distinct (requestsOf ys)
   chosen-apart =
       by-cases (Whole .clash)
-      (λ t. rw t column-apart)
+      (λ t. rw t all-apart)
       (λ f. by-cases (diverts e) (λ d. rw (f, d) (no-clash f)) (λ d. rw (f, d) (no-clash f)))
 
   chosen-drawn : diverts e ≡ true → Chosen .identifier ≡ identifierFor s ys
   chosen-drawn d = by-cases (Whole .clash) (λ t. rw t (column-drawn d)) (λ f. rw (f, d) (rw d at (column-drawn d)))
 
-  sees-table : Sees s ys e (seenBy input Whole (length ys) Chosen (recordAt ys (placeSeen Whole input)))
+  sees-table : Sees s ys e (seenBy input Whole (length ys) Chosen (at ys (placeSeen Whole input)))
   sees-table = record {
     size = refl;
     near = λ l. same-place;
@@ -193,14 +193,14 @@ module _ (input : Input) (ys : List Call) where
   }
 
   -- the test behind number 1
-  tested : inBounds (length ys) s && Whole .sound && Chosen .apart ≡ sound s ys
+  tested : inBounds (length ys) (s .limit) (s .next) && Whole .sound && Chosen .apart ≡ sound s ys
   unfolding sound
   tested =
       rw (chosen-apart, survey-sound (askedOf input) (length ys) 0 ys)
       (regroup (leb 1 (length ys) && leb (length ys) 64) (stationOk s) (all (soundCall (s .last)) ys) (distinct (requestsOf ys)))
 
-  short-is : decisionBy input Whole (length ys) Chosen (recordAt ys (placeSeen Whole input)) ≡ decisionOn s ys e
-  short-is = by-test s ys e (seenBy input Whole (length ys) Chosen (recordAt ys (placeSeen Whole input))) sees-table same-place _ tested
+  short-is : decisionBy input Whole (length ys) Chosen (at ys (placeSeen Whole input)) ≡ decisionOn s ys e
+  short-is = by-test s ys e (seenBy input Whole (length ys) Chosen (at ys (placeSeen Whole input))) sees-table same-place _ tested
 
 -- ---- a table over 64 records is refused as the empty one is
 module _ (input : Input) (ys : List Call) (h : 64 < length ys) where
@@ -218,14 +218,14 @@ module _ (input : Input) (ys : List Call) (h : 64 < length ys) where
 
 -- ---- any table
 module _ (input : Input) (ys : List Call) (n : ℕ) (v : Noted) (i : ℕ) (c : Call) (p : Pick) (e₁ : n ≡ fitOf (length ys))
-    (e₂ : v ≡ surveyOf (askedOf input) n 0 (take n ys)) (e₃ : i ≡ placeSeen v input) (e₄ : c ≡ recordAt (take n ys) i) (e₅ : p ≡ pickedOf input v n ys) where
+    (e₂ : v ≡ surveyOf (askedOf input) n 0 (take n ys)) (e₃ : i ≡ placeSeen v input) (e₄ : c ≡ at (take n ys) i) (e₅ : p ≡ pickedOf input v n ys) where
   pub looked-is : decisionBy input v n p c ≡ decisionOn (input .station) ys (input .event)
   looked-is =
       by-cases (leb (length ys) 64)
       (λ t.
       let f : n ≡ length ys = e₁ ∙ fit-short (length ys) (leb-true (length ys) 64 t) in
       let g : v ≡ Whole input ys = e₂ ∙ rw (f, take-length ys) in
-      let k : c ≡ recordAt ys (placeSeen (Whole input ys) input) = e₄ ∙ rw (f, take-length ys, e₃, g) in
+      let k : c ≡ at ys (placeSeen (Whole input ys) input) = e₄ ∙ rw (f, take-length ys, e₃, g) in
       rw (e₅, k, g, f) (short-is input ys))
       (λ t.
       let f : n ≡ 0 = e₁ ∙ fit-long (length ys) (leb-false (length ys) 64 t) in

@@ -2,7 +2,6 @@
 use Prim.Native.Nat.{ℕ, _-_}
 use mathlib.Core.Bool.{Bool, true, _&&_, _||_}
 use mathlib.Core.List.{List}
-use lib.Dec.{leb}
 use Rattle.ground.specs.Choice.{when_then_else_}
 use Rattle.event.specs.declared.Event.{Event}
 use Rattle.event.specs.Kinds.{diverts}
@@ -11,14 +10,14 @@ use Rattle.call.specs.Incoming.{t1}
 use Rattle.call.specs.declared.Effect.{Effect}
 use Rattle.call.specs.Record.{freeCall}
 use Rattle.station.specs.declared.Station.{Station}
-use Rattle.station.specs.Station.{stationOk, emptyAnswer}
+use Rattle.station.specs.Station.{emptyAnswer}
 use Rattle.station.specs.Step.{Outcome, answerOf}
+use Rattle.sound.specs.Bounds.{inBounds}
 use Rattle.slice.specs.Table.{settledAt}
-use Rattle.notes.specs.Notes.{identifierIn}
+use Rattle.notes.specs.Notes.{identifierIn, columnOf}
 use Rattle.table.specs.Column.{apartIn}
 use Rattle.survey.specs.declared.Asked.{Asked}
 use Rattle.survey.specs.declared.Noted.{Noted}
-use Rattle.survey.specs.Column.{heldIn}
 use Rattle.turn.specs.declared.Seen.{Seen}
 use Rattle.turn.specs.declared.Turn.{Turn}
 use Rattle.turn.specs.declared.Turn.the-variants.{Refused, NoneDue, Done}
@@ -29,17 +28,17 @@ use Rattle.lent.specs.declared.Pick.{Pick}
 
 -- no record changes, and the answer has no call
 abbrev pub unchangedAs : ℕ → Station → Decision
-unchangedAs code s = record { told = record { answer = emptyAnswer code; station = s }; place = 0; count = 0; call = freeCall }
+unchangedAs code s = record { reply = record { answer = emptyAnswer code; station = s }; place = 0; count = 0; call = freeCall }
 
 -- the record at i changes
-abbrev pub settledAs : ℕ → Effect → Station → Decision
-settledAs i x s = record { told = record { answer = answerOf i x; station = s }; place = i; count = 1; call = x .call }
+abbrev pub changedAs : ℕ → Effect → Station → Decision
+changedAs i x s = record { reply = record { answer = answerOf i x; station = s }; place = i; count = 1; call = x .call }
 
 -- what a turn on what was seen comes to
 abbrev pub decisionOf : Station → Event → Seen → Turn → Decision
 decisionOf s e v (Refused code) = unchangedAs code s
 decisionOf s e v NoneDue = unchangedAs 0 (stationOn s e (v .identifier))
-decisionOf s e v (Done x) = settledAs (v .place) x (stationOn s e (v .identifier))
+decisionOf s e v (Done x) = changedAs (v .place) x (stationOn s e (v .identifier))
 
 -- one event on any table
 unfoldable pub decisionOn : Station → List Call → Event → Decision
@@ -47,7 +46,7 @@ decisionOn s calls e = decisionOf s e (seenIn s calls e) (decidedOf s calls e)
 
 -- the outcome that a decision stands for
 abbrev pub outcomeBy : List Call → Decision → Outcome
-outcomeBy calls d = record { answer = d .told .answer; station = d .told .station; calls = settledAt (d .place) (d .count) (d .call) calls }
+outcomeBy calls d = record { answer = d .reply .answer; station = d .reply .station; calls = settledAt (d .place) (d .count) (d .call) calls }
 
 -- what the survey is asked
 abbrev pub askedOf : Input → Asked
@@ -72,10 +71,7 @@ asItStands input = record { apart = true; identifier = input .station .next }
 
 -- of the first n records
 abbrev pub pickedOf : Input → Noted → ℕ → List Call → Pick
-pickedOf input v n calls = when wantsColumn v input then fromColumn input v (heldIn n calls) else asItStands input
-
-abbrev pub inBounds : ℕ → Station → Bool
-inBounds n s = (leb 1 n && leb n 64) && stationOk s
+pickedOf input v n calls = when wantsColumn v input then fromColumn input v (columnOf n calls) else asItStands input
 
 abbrev pub seenBy : Input → Noted → ℕ → Pick → Call → Seen
 seenBy input v n p c = record { len = n; place = placeSeen v input; identifier = p .identifier; call = c }
@@ -83,7 +79,7 @@ seenBy input v n p c = record { len = n; place = placeSeen v input; identifier =
 -- "1: table empty, over 64 records or not sound, .."
 abbrev pub turnBy : Input → Noted → ℕ → Pick → Call → Turn
 turnBy input v n p c =
-    when inBounds n (input .station) && v .sound && p .apart then turnOf (input .station) (input .event) (seenBy input v n p c) else
+    when inBounds n (input .station .limit) (input .station .next) && v .sound && p .apart then turnOf (input .station) (input .event) (seenBy input v n p c) else
     Refused 1
 
 -- the decision on what was noted and picked of n records, and on the record where the event acts

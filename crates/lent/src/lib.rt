@@ -1,9 +1,10 @@
-// One event on the records that a host lends, decided by looking at them: no record is copied but the one where the event acts.
+// One event on the records that a host lends: they are looked at one at a time, the one where the event acts is read once more, and
+// the open identifiers are copied out where they are needed. Nothing is written here.
 ghost use mathlib.Core.Path.{_≡_};
 ghost use Prim.Native.Nat.{_-_, _≤_, _<_};
 ghost use lib.ListN.{length};
 ghost use Rattle.call.specs.Incoming.{t1};
-ghost use Rattle.lent.specs.Lent.{askedOf, placeSeen, wantsColumn, apartWhere, fromColumn, asItStands, pickedOf, unchangedAs, settledAs, decisionBy, decisionOn};
+ghost use Rattle.lent.specs.Lent.{askedOf, placeSeen, wantsColumn, apartWhere, fromColumn, asItStands, pickedOf, unchangedAs, changedAs, decisionBy, decisionOn};
 use call::Call;
 use call::Effect;
 use event::Event;
@@ -23,7 +24,7 @@ pub struct Input {
 
 // What goes out beside the table.
 #[repr(C)]
-pub struct Told {
+pub struct Reply {
     pub answer: Answer,
     pub station: Station,
 }
@@ -31,7 +32,7 @@ pub struct Told {
 // What goes out, and what becomes of the records: the one at `place` becomes `call`, or none changes where `count` is 0.
 #[repr(C)]
 pub struct Decision {
-    pub told: Told,
+    pub reply: Reply,
     pub place: usize,
     pub count: usize,
     pub call: Call,
@@ -130,13 +131,13 @@ fn unchanged(code: u8, s: Station) -> Decision
     ensures { λ r. ⌜ r ≡ unchangedAs code s ⌝ }
 {
     let answer = station::empty_answer(code);
-    let told = Told {
+    let reply = Reply {
         answer: answer,
         station: s,
     };
     let free = call::free_call();
     Decision {
-        told: told,
+        reply: reply,
         place: 0,
         count: 0,
         call: free,
@@ -144,18 +145,18 @@ fn unchanged(code: u8, s: Station) -> Decision
 }
 
 // The record at i changes.
-fn settled(i: usize, x: Effect, s: Station) -> Decision
+fn changed(i: usize, x: Effect, s: Station) -> Decision
     requires { ⌜ i < 64 ⌝ }
-    ensures { λ r. ⌜ r ≡ settledAs i x s ⌝ }
+    ensures { λ r. ⌜ r ≡ changedAs i x s ⌝ }
 {
     let answer = turn::answer_of(i as u8, x);
-    let told = Told {
+    let reply = Reply {
         answer: answer,
         station: s,
     };
     let c = x.call;
     Decision {
-        told: told,
+        reply: reply,
         place: i,
         count: 1,
         call: c,
@@ -192,7 +193,7 @@ fn decided_on(input: Input, v: Noted, n: usize, p: Pick, c: Call) -> Decision
             return unchanged(0, turn::station_on(s, e, identifier));
         }
         Turn::Done(x) => {
-            return settled(place, x, turn::station_on(s, e, identifier));
+            return changed(place, x, turn::station_on(s, e, identifier));
         }
     }
 }

@@ -97,7 +97,7 @@ no-requests zero (suc n) = no-requests zero n
 no-requests (suc k) zero = refl
 no-requests (suc k) (suc n) = no-requests k n
 
--- the places past the lent length hold no request
+-- the places past the table's end hold no request
 pub requests-over : (n : ℕ) (l : List Call) → requestsOf (over n l frees) ≡ requestsOf (take n l)
 requests-over n l = requests-append (take n l) (drop n frees) ∙ rw (no-requests n 64) (append-nil (requestsOf (take n l)))
 

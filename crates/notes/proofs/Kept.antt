@@ -12,14 +12,18 @@ use Rattle.ground.proofs.Walks.{all-set, both}
 use Rattle.call.specs.declared.Call.{Call}
 use Rattle.call.specs.Record.{isFree, freeCall}
 use Rattle.notes.specs.declared.Notes.{Notes}
-use Rattle.notes.specs.Mask.{maskOf, weigh}
-use Rattle.notes.specs.Notes.{Kept, heldBy, quietUntil, atLeast, under, never, frees}
-use Rattle.notes.proofs.Mask.{mask-set, mask-has, mask-lt}
+use Rattle.notes.specs.Mask.{maskOf, weigh, over}
+use Rattle.notes.specs.Notes.{Kept, heldBy, quietUntil, atLeast, under, never, frees, columnOf}
+use Rattle.notes.proofs.Mask.{mask-set, mask-has, mask-lt, over-next}
 
 pub map-set : {A B : Type 0} (f : A → B) (l : List A) (i : ℕ) (x : A) → map f (set l i x) ≡ set (map f l) i (f x)
 map-set f [] i x = refl
 map-set f (y ∷ ys) zero x = refl
 map-set f (y ∷ ys) (suc i) x = ap (λ r. f y ∷ r) (map-set f ys i x)
+
+-- the column with one record more
+pub column-next : (calls : List Call) (i : ℕ) → i < length calls → i < 64 → set (columnOf i calls) i (heldBy (getD calls i freeCall)) ≡ columnOf (i + 1) calls
+column-next calls i h k = sym (map-set heldBy (over i calls frees) i (getD calls i freeCall)) ∙ ap (map heldBy) (over-next calls frees i freeCall h k)
 
 pub all-lower : (n m : ℕ) (l : List ℕ) → n ≤ m → all (atLeast m) l ≡ true → all (atLeast n) l ≡ true
 unfolding all

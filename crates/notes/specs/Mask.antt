@@ -1,4 +1,4 @@
--- Summaries of a list: a number whose binary digits say which elements pass.
+-- A list's mask, the number whose binary digits say which elements pass; and a list whose beginning is another's.
 use Prim.Native.Nat.{ℕ, zero, suc, _+_, _*_, _^_}
 use mathlib.Core.Bool.{Bool, true, false}
 use mathlib.Core.List.{List, [], _∷_, _++_}

@@ -1,4 +1,4 @@
--- What a run keeps beside its table.
+-- What is noted of a table: free records, due times, open identifiers; and what a run keeps of that from event to event.
 use Prim.Native.Nat.{ℕ, zero, suc, _+_, _-_, min}
 use mathlib.Core.Path.{_≡_}
 use mathlib.Core.Bool.{Bool, true}
@@ -14,7 +14,7 @@ use Rattle.call.specs.declared.Call.{Call}
 use Rattle.call.specs.Record.{freeCall, isFree, requested}
 use Rattle.call.specs.Incoming.{t1}
 use Rattle.notes.specs.declared.Notes.{Notes}
-use Rattle.notes.specs.Mask.{maskOf}
+use Rattle.notes.specs.Mask.{maskOf, over}
 
 abbrev pub never : ℕ
 never = 18446744073709551615
@@ -55,9 +55,13 @@ firstFreeIn (suc more) held candidate =
 abbrev pub identifierIn : Event → List ℕ → ℕ → ℕ
 identifierIn e held next = when diverts e then firstFreeIn candidates held next else next
 
--- 64 free records: what counts past the lent length
+-- 64 free records: what counts past the table's end
 abbrev pub frees : List Call
 frees = replicate 64 freeCall
+
+-- the open identifiers of the first n records as a column of 64 numbers: each plus 1, and 0 where none is open
+abbrev pub columnOf : ℕ → List Call → List ℕ
+columnOf n calls = map heldBy (over n calls frees)
 
 -- what records come to, summed up
 unfoldable pub notesOf : List Call → Notes

@@ -1,5 +1,6 @@
-// What a run keeps beside its table, so that no event walks through it: which records are free, when a request falls due,
-// which identifiers are held. Places past the lent length count as free records.
+// What is noted of a table, so that no event walks through its records: which are free, when a request falls due, which
+// identifiers are held; and the draw among those. A run keeps all of it from event to event; of a lent slice the driver has the
+// column of identifiers, where it needs it. Places past the table's end count as free records.
 ghost use mathlib.Core.Path.{_≡_};
 ghost use mathlib.Core.Bool.{true};
 ghost use Prim.Native.Nat.{_+_, _-_, _^_, _≤_, _<_, min};
@@ -22,7 +23,8 @@ pub struct Notes {
     pub held: [u32; 64],
 }
 
-fn bit(i: usize) -> u64
+// A number with bit i alone.
+pub fn bit(i: usize) -> u64
     requires { ⌜ i < 64 ⌝ }
     ensures { λ r. ⌜ r ≡ 2 ^ i ⌝ }
 {
@@ -88,7 +90,7 @@ pub fn sooner(a: u64, b: u64) -> u64
 }
 
 // The lowest place whose time has passed; 64 where none has.
-pub fn first_past(dues: &[u64; 64], time: u64) -> usize
+fn first_past(dues: &[u64; 64], time: u64) -> usize
     requires { ⌜ length (now dues) ≡ 64 ⌝ }
     ensures { λ r. ⌜ r ≡ first (under time) (now (dues .entry)) ⌝ }
 {
@@ -138,7 +140,7 @@ pub fn due_at(dues: &[u64; 64], soon: u64, time: u64) -> usize
 
 // "takes the first identifier from the next one on that no open request has": candidates in a row, each sought in the
 // column of the table's identifiers; left by label when a candidate is free.
-pub fn draw(held: &[u32; 64], next: u16) -> u16
+fn draw(held: &[u32; 64], next: u16) -> u16
     requires { ⌜ length (now held) ≡ 64 ⌝ }
     ensures { λ r. ⌜ r ≡ firstFreeIn 65 (now (held .entry)) next ⌝ }
 {

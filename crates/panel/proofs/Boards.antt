@@ -1,4 +1,4 @@
--- Events on a sound board, as events on the table that it lends. Assumes nothing.
+-- Events on a sound board, as events on the table that it holds. Assumes nothing.
 use Prim.Native.Nat.{ℕ, suc, _+_}
 use mathlib.Core.Bool.{true, false, not}
 use mathlib.Core.List.{List, _∷_, _++_, flatten}
@@ -22,8 +22,8 @@ module _ (b : Board) (h : soundBoard b ≡ true) where
   not-over : ltb 64 (b .len) ≡ false
   not-over = not-true (ltb 64 (b .len)) (both (not (ltb 64 (b .len))) (sound (b .station) (tableOf b)) h .0)
 
-  on-lent : (e : Event) → stepBoard b e ≡ putBack b (step (b .station) (tableOf b) e)
-  on-lent e = rw not-over
+  on-table : (e : Event) → stepBoard b e ≡ putBack b (step (b .station) (tableOf b) e)
+  on-table e = rw not-over
 
   module _ (e : Event) (long : length (b .calls) ≡ 64) where
     calls-long : length (step (b .station) (tableOf b) e .calls) ≡ b .len
@@ -34,11 +34,11 @@ module _ (b : Board) (h : soundBoard b ≡ true) where
     pub stays-long : length (stepBoard b e .board .calls) ≡ 64
     stays-long =
         let m = ltb-false 64 (b .len) not-over in
-        rw (on-lent e) (omega (arith, length-append (step (b .station) (tableOf b) e .calls) (drop (b .len) (b .calls)), calls-long, length-drop (b .len) (b .calls)))
+        rw (on-table e) (omega (arith, length-append (step (b .station) (tableOf b) e .calls) (drop (b .len) (b .calls)), calls-long, length-drop (b .len) (b .calls)))
 
     -- the line of the first event, then those of the others on the board that it leaves
     pub lines-on : (position : ℕ) (rest : List Event)
         → linesText position (b .station) (tableOf b) (e ∷ rest)
         ≡ line position (stepBoard b e .answer) ++ linesText (suc position) (stepBoard b e .board .station) (tableOf (stepBoard b e .board)) rest
     unfolding printed flatten
-    lines-on position rest = rw (on-lent e, take-at (step (b .station) (tableOf b) e .calls) (drop (b .len) (b .calls)) (b .len) calls-long)
+    lines-on position rest = rw (on-table e, take-at (step (b .station) (tableOf b) e .calls) (drop (b .len) (b .calls)) (b .len) calls-long)

@@ -12,7 +12,8 @@ use Rattle.station.specs.declared.Answer.{Answer}
 use Rattle.station.specs.Station.{emptyAnswer}
 use Rattle.station.specs.Step.{answerOf}
 use Rattle.board.specs.declared.Board.{Board}
-use Rattle.board.specs.Board.{Stepped, stepSoundBoard, refusedBoard, doneBoard, noneDueBoard}
+use Rattle.board.specs.Board.{Stepped, stepSoundBoard}
+use Rattle.board.proofs.Boards.{refusedBoard, doneBoard, noneDueBoard}
 use Rattle.board.proofs.Beside.{boardNow}
 use Rattle.board.proofs.Steps.{tested-step}
 use Rattle.printout.specs.Line.{line}

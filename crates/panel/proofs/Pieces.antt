@@ -14,7 +14,7 @@ use Rattle.board.proofs.Kept.{board-kept}
 use Rattle.printout.specs.Line.{line, printed}
 use Rattle.printout.specs.Panel.{linesText, wholeEvents, cutText, panelText}
 use Rattle.panel.specs.Play.{boardAfter}
-use Rattle.panel.specs.Pieces.{InTurns, over, onward, TurnsPrint}
+use Rattle.panel.specs.Pieces.{unplayed, InTurns, over, onward, TurnsPrint}
 use Rattle.panel.proofs.Boards.{stays-long, lines-on}
 use Rattle.panel.proofs.Records.{events-taken, events-behind, events-split, events-long}
 use Rattle.panel.proofs.Begun.{start-sound}
@@ -64,7 +64,7 @@ turns-print {left = left} (over s) h l =
     rw (z, m)
 turns-print {b} {position} {left} (onward {text = text} seen n s m w) h l =
     let es = eventsFrom (take seen left) 0 n in
-    let rest = drop (n * 24) left in
+    let rest = unplayed n left in
     let c : length rest % 24 ≡ length left % 24 = omega (arith, length-drop (n * 24) left) in
     let t = rw c at (turns-print w (after-sound b es h) (after-long b es h l)) in
     let q = rw (events-long (take seen left) 0 n) at (lines-append position b es (wholeEvents rest) h l) in

@@ -8,7 +8,7 @@ use lib.Seq.{length-take-le}
 use Rattle.board.specs.declared.Board.{Board}
 use Rattle.panel.specs.declared.Played.{Played}
 use Rattle.panel.specs.Play.{Plays}
-use Rattle.panelrun.specs.Kept.{Kept}
+use Rattle.panelrun.specs.Between.{Between}
 
 -- the count of a part that is lent
 pub counts : (n : ℕ) (xs : List ℕ) → n ≤ length xs → n ≡ length (take n xs)
@@ -19,7 +19,7 @@ module _ (b : Board) (position end : ℕ) (input old new : List ℕ) (r : Played
   pub used-within : r .used ≤ end
   used-within = omega (arith, w .used, counts end input h)
 
-  pub kept : (state : ℕ) → Kept position (record { board = r .board; position = r .position; held = end - r .used; state = state })
+  pub kept : (state : ℕ) → Between position (record { board = r .board; position = r .position; held = end - r .used; state = state })
   kept state = record {
     sound = w .sound;
     near = omega (arith, w .next, counts end input h);

@@ -4,7 +4,7 @@ ghost use mathlib.Core.Bool.{true};
 ghost use Prim.Native.Nat.{_+_, _^_, _≤_, _<_};
 ghost use lib.ListN.{length};
 ghost use Rattle.board.specs.Board.{soundBoard};
-ghost use Rattle.panelrun.specs.Kept.{Kept};
+ghost use Rattle.panelrun.specs.Between.{Between};
 use board::Board;
 use libc::STDIN_FILENO;
 use libc::STDOUT_FILENO;
@@ -47,7 +47,7 @@ fn read_behind(input: &mut [u8], held: usize) -> Piece
 // Reads a piece, plays it and writes its lines.
 fn turn(board: Board, position: u64, held: usize, input: &mut [u8], output: &mut [u8]) -> Run
     requires { ⌜ (soundBoard board ≡ true) × (position + 2730 < 2 ^ 64) × (held < 24) × (length (now input) ≡ 65536) × (length (now output) ≡ 262144) ⌝ }
-    ensures { λ r. ⌜ Kept position r ⌝ }
+    ensures { λ r. ⌜ Between position r ⌝ }
 {
     let piece = read_behind(input, held);
     let end = piece.end;

@@ -78,8 +78,8 @@ line-ends nothing b = start b
 line-ends (lines h a) b = panel a (rw (lt-leb _ 1 h) at b)
 
 -- a fault, or read
-abbrev Kept : Reading → List ℕ → ℕ → Reading → Type 0
-Kept r done byte next = (next ≡ atFault r) ⊎ Read next (done ++ (byte ∷ []))
+abbrev GoesOn : Reading → List ℕ → ℕ → Reading → Type 0
+GoesOn r done byte next = (next ≡ atFault r) ⊎ Read next (done ++ (byte ∷ []))
 
 module _ (r : Reading) (done : List ℕ) (w : Read r done) where
   -- the number that is being read, once it has a digit
@@ -90,7 +90,7 @@ module _ (r : Reading) (done : List ℕ) (w : Read r done) where
   longer : (byte : ℕ) → done ++ (byte ∷ []) ≡ w .lines ++ ((w .numbers ++ w .digits) ++ (byte ∷ []))
   longer byte = rw (w .all, append-assoc)
 
-  digit-kept : (byte : ℕ) → isDigit byte ≡ true → Kept r done byte (digitRead r (byte - 48))
+  digit-kept : (byte : ℕ) → isDigit byte ≡ true → GoesOn r done byte (digitRead r (byte - 48))
   digit-kept byte t =
       let parts = both (leb 48 byte) (leb byte 57) t in
       let low = leb-true 48 byte (parts .0) in
@@ -113,7 +113,7 @@ module _ (r : Reading) (done : List ℕ) (w : Read r done) where
       }))
       (λ k. rw k (inl refl))
 
-  space-kept : Kept r done 32 (spaceRead r)
+  space-kept : GoesOn r done 32 (spaceRead r)
   space-kept =
       by-cases (r .begun && ltb (r .numbers) (numbersBefore (r .line)))
       (λ k.
@@ -139,7 +139,7 @@ module _ (r : Reading) (done : List ℕ) (w : Read r done) where
       let e : r .numbers ≡ numbersBefore (r .line) = eqb-true _ _ (parts .1) in
       rw (longer 10) (line-ends (w .before) (rw e at (one-more (w .spaced) (number (parts .0)))))
 
-  newline-kept : Kept r done 10 (newlineRead r)
+  newline-kept : GoesOn r done 10 (newlineRead r)
   newline-kept =
       by-cases (wholeLine r)
       (λ k.
@@ -158,7 +158,7 @@ module _ (r : Reading) (done : List ℕ) (w : Read r done) where
       }))
       (λ k. rw k (inl refl))
 
-  byte-kept : (byte : ℕ) → Kept r done byte (byteRead r byte)
+  byte-kept : (byte : ℕ) → GoesOn r done byte (byteRead r byte)
   unfolding byteRead
   byte-kept byte =
       rw (eq-eqb (r .fault) 0 (w .sound))

@@ -4,6 +4,7 @@ use Prim.Native.Nat.{ℕ, zero, suc}
 use mathlib.Core.List.{List, _++_}
 use lib.Dec.{eqb}
 use Rattle.ground.specs.Choice.{when_then_else_}
+use Rattle.event.specs.Kinds.{cfu, cfb}
 use Rattle.printout.specs.Line.{decimal, space, newline}
 use Rattle.printout.specs.Cases.{charactersOf}
 use Rattle.rehearsal.specs.declared.Panel.{Panel}
@@ -19,8 +20,8 @@ endingWord ending =
 
 abbrev pub reasonWord : ℕ → List ℕ
 reasonWord reason =
-    when eqb reason 1 then charactersOf "cfu" else
-    when eqb reason 2 then charactersOf "cfb" else
+    when eqb reason cfu then charactersOf "cfu" else
+    when eqb reason cfb then charactersOf "cfb" else
     charactersOf "cfnr"
 
 -- a panel that forwards the call, with its reason

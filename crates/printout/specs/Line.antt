@@ -13,7 +13,7 @@ use Rattle.call.specs.Messages.{noIdentifier, noCounter, noLetter}
 use Rattle.station.specs.declared.Station.{Station}
 use Rattle.station.specs.declared.Answer.{Answer}
 use Rattle.station.specs.Station.{noCall}
-use Rattle.station.specs.Step.{Turn, turns}
+use Rattle.station.specs.Step.{TurnTaken, turns}
 
 -- characters are their ASCII numbers
 abbrev pub digit : ℕ → ℕ
@@ -64,7 +64,7 @@ abbrev pub cutLine : ℕ → List ℕ
 cutLine count = 99 ∷ 117 ∷ 116 ∷ 32 ∷ decimal count ++ newline
 
 -- "prints a line each": the lines of the turns of a run, from a position on
-unfoldable pub linesOf : ℕ → List Turn → List (List ℕ)
+unfoldable pub linesOf : ℕ → List TurnTaken → List (List ℕ)
 linesOf position [] = []
 linesOf position (t ∷ rest) = line position (t .outcome .answer) ∷ linesOf (suc position) rest
 

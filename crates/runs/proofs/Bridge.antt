@@ -20,7 +20,7 @@ use Rattle.board.specs.Board.{Stepped, tableOf, putBack, soundBoard, stepBoard}
 use Rattle.board.proofs.Kept.{taken-again}
 use Rattle.runs.specs.declared.Ran.{Ran}
 use Rattle.runs.specs.Run.{ran, counted, runBy, runBoard}
-use Rattle.runs.specs.Statements.{heldIn, RunsTheList, RefusesTheList}
+use Rattle.runs.specs.Statements.{onBoard, RunsTheList, RefusesTheList}
 use Rattle.runs.proofs.Folds.{never-sound}
 
 dropped-again : {A : Type 0} (n : ℕ) (l x : List A) → length x ≡ length (take n l) → drop n (x ++ drop n l) ≡ drop n l
@@ -35,7 +35,7 @@ module _ (b : Board) (short : b .len ≤ 64) (cut : ℕ) where
   abbrev boardOf : Station → List Call → Board
   boardOf s calls = record { station = s; len = b .len; calls = calls ++ drop (b .len) (b .calls) }
 
-  -- a step on the lent table, put back
+  -- a step on the table that the board holds, put back
   one-step : (s : Station) (calls : List Call) (e : Event) → length calls ≡ length (tableOf b)
       → stepBoard (boardOf s calls) e ≡ record { answer = step s calls e .answer; board = boardOf (step s calls e .station) (step s calls e .calls) }
   one-step s calls e q =
@@ -44,10 +44,10 @@ module _ (b : Board) (short : b .len ≤ 64) (cut : ℕ) where
       rw (le-ltb 64 (b .len) short, t, d)
 
   one-count : (r : list.Ran) (e : Event) → length (r .calls) ≡ length (tableOf b)
-      → counted (heldIn b cut r) (stepBoard (boardOf (r .station) (r .calls)) e) ≡ heldIn b cut (list.runStep r e)
-  one-count r e q = ap (counted (heldIn b cut r)) (one-step (r .station) (r .calls) e q) ∙ same (step (r .station) (r .calls) e)
+      → counted (onBoard b cut r) (stepBoard (boardOf (r .station) (r .calls)) e) ≡ onBoard b cut (list.runStep r e)
+  one-count r e q = ap (counted (onBoard b cut r)) (one-step (r .station) (r .calls) e q) ∙ same (step (r .station) (r .calls) e)
     where
-      same : (o : Outcome) → counted (heldIn b cut r) (record { answer = o .answer; board = boardOf (o .station) (o .calls) }) ≡ heldIn b cut (list.counted r o)
+      same : (o : Outcome) → counted (onBoard b cut r) (record { answer = o .answer; board = boardOf (o .station) (o .calls) }) ≡ onBoard b cut (list.counted r o)
       same o = go (eqb (o .answer .code) 0)
         where
           go : (t : Bool) → (when t then ran (r .done + 1) (r .refused) cut (boardOf (o .station) (o .calls)) else ran (r .done) (r .refused + 1) cut (boardOf (o .station) (o .calls)))
@@ -55,7 +55,7 @@ module _ (b : Board) (short : b .len ≤ 64) (cut : ℕ) where
           go true = refl
           go false = refl
 
-  all-events : (r : list.Ran) (events : List Event) → length (r .calls) ≡ length (tableOf b) → runBy stepBoard (heldIn b cut r) events ≡ heldIn b cut (list.runOn r events)
+  all-events : (r : list.Ran) (events : List Event) → length (r .calls) ≡ length (tableOf b) → runBy stepBoard (onBoard b cut r) events ≡ onBoard b cut (list.runOn r events)
   unfolding runBy list.runOn
   all-events r [] q = refl
   all-events r (e ∷ rest) q =

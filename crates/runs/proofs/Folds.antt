@@ -11,7 +11,8 @@ use Rattle.ground.specs.Choice.{when_then_else_}
 use Rattle.event.specs.declared.Event.{Event}
 use Rattle.event.specs.Record.{eventAt, eventsFrom}
 use Rattle.board.specs.declared.Board.{Board}
-use Rattle.board.specs.Board.{Stepped, soundBoard, stepBoard, stepSoundBoard, refusedBoard}
+use Rattle.board.specs.Board.{Stepped, soundBoard, stepBoard, stepSoundBoard}
+use Rattle.board.proofs.Boards.{refusedBoard}
 use Rattle.board.proofs.Steps.{tested-step, unsound-step}
 use Rattle.board.proofs.Kept.{board-kept}
 use Rattle.runs.specs.declared.Ran.{Ran}

@@ -12,7 +12,8 @@ use Rattle.call.specs.declared.Effect.{Effect}
 use Rattle.station.specs.declared.Station.{Station}
 use Rattle.notes.specs.declared.Notes.{Notes}
 use Rattle.board.specs.declared.Board.{Board}
-use Rattle.board.specs.Board.{stepSoundBoard, refusedBoard, doneBoard, noneDueBoard}
+use Rattle.board.specs.Board.{stepSoundBoard}
+use Rattle.board.proofs.Boards.{refusedBoard, doneBoard, noneDueBoard}
 use Rattle.board.proofs.Beside.{Beside, boardNow}
 use Rattle.runs.specs.declared.Ran.{Ran}
 use Rattle.runs.specs.Run.{ran, runFirst}

@@ -1,4 +1,5 @@
-// Many events, played in place: the table stays in a local array, and no call takes it.
+// Many events, played in place: the table is tested and summed up once, then it stays in a local array, and what an event calls
+// takes one record of it.
 ghost use mathlib.Core.Path.{_≡_};
 ghost use Prim.Native.Nat.{ℕ, _+_, _/_, _≤_, _<_};
 ghost use lib.ListN.{length};

@@ -1,19 +1,14 @@
 -- A slice that a host lends, by its list: what of it is read, and what is written back.
 use Prim.Native.Nat.{ℕ}
 use mathlib.Core.List.{List}
-use lib.ListN.{getD, set}
+use lib.ListN.{set}
 use lib.Dec.{leb, eqb}
 use Rattle.ground.specs.Choice.{when_then_else_}
 use Rattle.call.specs.declared.Call.{Call}
-use Rattle.call.specs.Record.{freeCall}
 
 -- how many records are worked on at most
 abbrev pub cap : ℕ
 cap = 64
-
--- the record at a place; past the end a free one
-abbrev pub recordAt : List Call → ℕ → Call
-recordAt l i = getD l i freeCall
 
 -- how many records of a table of len are worked on
 unfoldable pub fitOf : ℕ → ℕ

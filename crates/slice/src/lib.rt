@@ -2,7 +2,8 @@
 ghost use mathlib.Core.Path.{_≡_};
 ghost use Prim.Native.Nat.{_+_, _≤_};
 ghost use lib.ListN.{length, take};
-ghost use Rattle.slice.specs.Table.{recordAt, fitOf, settledAt};
+ghost use Rattle.station.specs.Table.{at};
+ghost use Rattle.slice.specs.Table.{fitOf, settledAt};
 use call::Call;
 
 // How many records are worked on: all where there are up to 64, and none of a longer table.
@@ -15,7 +16,7 @@ pub fn fit(len: usize) -> usize
 // The record at a place among the first n; a free one past them.
 pub fn record_at(table: &[Call], n: usize, i: usize) -> Call
     requires { ⌜ n ≤ length (now table) ⌝ }
-    ensures { λ r. ⌜ r ≡ recordAt (take n (now (table .entry))) i ⌝ }
+    ensures { λ r. ⌜ r ≡ at (take n (now (table .entry))) i ⌝ }
 {
     if i < n {
         return table[i];

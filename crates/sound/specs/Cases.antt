@@ -3,8 +3,9 @@ use mathlib.Core.Bool.{Bool, false, _&&_, _||_, not}
 use Prim.Native.Nat.{ℕ}
 use lib.Dec.{eqb, leb, ltb}
 use Rattle.ground.specs.Choice.{when_then_else_}
+use Rattle.notice.specs.Notice.{unmarked}
 use Rattle.call.specs.declared.Call.{Call}
-use Rattle.call.specs.Record.{active, requested, cdfNone, wait, granted, undiverted, fits}
+use Rattle.call.specs.Record.{Proceeding, Active, Idle, CdfDone, active, requested, cdfNone, wait, granted, undiverted, fits}
 use Rattle.call.specs.Soundness.{incomingUnused, outgoingUnused, outgoingCodes, ownThere, partyThere, waitingHolds, historyHolds, divertHolds, startHolds}
 use Rattle.sound.specs.Words.{legsWord, partyWord, toldWord, codesWord}
 
@@ -12,18 +13,18 @@ use Rattle.sound.specs.Words.{legsWord, partyWord, toldWord, codesWord}
 abbrev pub divertedBy : Call → Bool
 divertedBy c =
     when undiverted c then cdfNone c && (eqb (c .diverting) 0 && eqb (c .original) 0) else
-    leb (c .counter) 15 && (eqb (c .cdf) 2 || (wait c && not (active c)))
+    leb (c .counter) 15 && (eqb (c .cdf) CdfDone || (wait c && not (active c)))
 
 -- a request is open, one was granted, or neither
 abbrev pub requestBy : ℕ → Call → Bool
 requestBy last c =
-    when requested c then eqb (c .granted) 0 && fits (c .reason) c && not (eqb (c .identifier) 0) && startHolds last c else
-    when granted c then eqb (c .cds) 0 && fits (c .reason) c && eqb (c .identifier) 0 && eqb (c .start) 0 else
-    eqb (c .cds) 0 && eqb (c .granted) 0 && eqb (c .reason) 0 && eqb (c .identifier) 0 && eqb (c .start) 0
+    when requested c then eqb (c .granted) unmarked && fits (c .reason) c && not (eqb (c .identifier) 0) && startHolds last c else
+    when granted c then eqb (c .cds) Idle && fits (c .reason) c && eqb (c .identifier) 0 && eqb (c .start) 0 else
+    eqb (c .cds) Idle && eqb (c .granted) unmarked && eqb (c .reason) 0 && eqb (c .identifier) 0 && eqb (c .start) 0
 
 -- what holds of each incoming call's record
 abbrev pub incomingBase : Call → Bool
-incomingBase c = outgoingUnused c && (leb 1 (c .basic) && leb (c .basic) 3) && ownThere c
+incomingBase c = outgoingUnused c && (leb Proceeding (c .basic) && leb (c .basic) Active) && ownThere c
 
 -- the short case, neither diverted nor a request: what is left is 0
 abbrev pub incomingRest : Call → Bool

@@ -2,9 +2,9 @@
 ghost use mathlib.Core.Path.{_≡_};
 ghost use mathlib.Core.Bool.{_&&_};
 ghost use lib.Dec.{eqb, leb};
-ghost use Rattle.station.specs.Station.{limitOk, nextOk};
 ghost use Rattle.call.specs.Record.{fits as fitsState};
 ghost use Rattle.call.specs.Soundness.{dli1Unused, historyUnused, outgoingUnused, incomingUnused, outgoingCodes, waitingHolds, historyHolds, divertHolds, soundCall};
+ghost use Rattle.sound.specs.Bounds.{inBounds};
 ghost use Rattle.sound.specs.Cases.{divertedBy, requestBy, incomingBase, incomingRest, incomingBy, outgoingBase, outgoingRest, outgoingBy};
 ghost use Rattle.sound.specs.Words.{legsWord, partyWord, toldWord, codesWord, numbersWord};
 use call::Call;
@@ -272,7 +272,7 @@ pub fn sound_call(c: Call, last: u64) -> bool
 
 // "1 to 64 call records", a limit of 1 to 15, and a next identifier that is not 0.
 pub fn in_bounds(len: usize, limit: u8, next: u16) -> bool
-    ensures { λ r. ⌜ r ≡ ((leb 1 len && leb len 64) && (limitOk limit && nextOk next)) ⌝ }
+    ensures { λ r. ⌜ r ≡ inBounds len limit next ⌝ }
 {
     (1 <= len) & (len <= 64) & ((1 <= limit) & (limit <= 15) & !(next == 0))
 }

@@ -22,7 +22,7 @@ use Rattle.call.specs.Act.{act}
 use Rattle.station.specs.declared.Station.{Station}
 use Rattle.station.specs.Table.{at, sound, identifierFor, place}
 use Rattle.station.specs.Refusals.{refusalOnSound, refusal}
-use Rattle.station.specs.Step.{Outcome, effectAt, settled, step, Ran, runStep, runOn, run}
+use Rattle.station.specs.Step.{Outcome, effectAt, doneAt, step, Ran, runStep, runOn, run}
 use Rattle.station.specs.Demand1.{codeOf}
 use Rattle.station.specs.Demand2.{Expires, ClockEnds, Passes, ClockPasses, Cleared, SixtyFour}
 use Rattle.station.proofs.Stepped.{Stepped, refuses, settles, passes, stepped}
@@ -42,7 +42,7 @@ clock-act : (c : Call) (e : Event) (k : ℕ) → T (clock e) → act c e k ≡ e
 unfolding act
 clock-act c e k t = rw (kindOf e t)
 
-expired-there : (s : Station) (calls : List Call) (e : Event) (i j : ℕ) (x : Effect) → x ≡ expired (at calls j) → j ≡ i → Expires calls i (settled s calls e j x)
+expired-there : (s : Station) (calls : List Call) (e : Event) (i j : ℕ) (x : Effect) → x ≡ expired (at calls j) → j ≡ i → Expires calls i (doneAt s calls e j x)
 expired-there s calls e i j x q h = record { call = h; identifier = rw (q, h); calls = rw (q, h) }
 
 expires : {s : Station} {calls : List Call} {e : Event} {o : Outcome} (i : ℕ) → Stepped s calls e o → o .answer .code ≡ 0 → T (clock e)

@@ -23,7 +23,7 @@ use Rattle.station.specs.declared.Answer.{Answer}
 use Rattle.station.specs.Station.{emptyAnswer}
 use Rattle.station.specs.Table.{sound, identifierFor, place}
 use Rattle.station.specs.Refusals.{notSound, early, refusalOnSound, refusal}
-use Rattle.station.specs.Step.{Outcome, refused, noneDue, effectAt, settled, done, byNumber, step, turns, outcomes}
+use Rattle.station.specs.Step.{Outcome, refused, noneDue, effectAt, doneAt, done, byNumber, step, turns, outcomes}
 use Rattle.station.proofs.Kept.{step-sound}
 use Rattle.station.specs.Demand3.{StricterAnswer, SameStates, StricterOutcome, RunsStricter, acts}
 use Rattle.station.proofs.Shared.{same-states, at-stricter, place-same, identifier-same, station-same, refusal-same, acts-same}
@@ -40,7 +40,7 @@ outer true false x y z t = refl
 outer false b x y z t = refl
 
 module _ (s : Station) (calls : List Call) (e : Event) where
-  pub step-acts : T (acts s calls e) → step s calls e ≡ settled s calls e (place calls e) (effectAt s calls e (place calls e))
+  pub step-acts : T (acts s calls e) → step s calls e ≡ doneAt s calls e (place calls e) (effectAt s calls e (place calls e))
   unfolding step byNumber done
   step-acts t = inner (eqb (refusal s calls e) 0) (ltb (place calls e) (length calls)) _ _ _ t
 
@@ -77,8 +77,8 @@ answer-alike : (a : Answer) → StricterAnswer a a
 answer-alike a = record { code = refl; call = refl; sent = refl; identifier = refl; counter = refl; notice = agreed; number = agreed }
 
 module _ (s : Station) {t t' : List Call} {e e' : Event} (q : Forall₂ StricterCall t t') (p : StricterEvent e e') where
-  settled-rel : (i : ℕ) {x x' : Effect} → StricterEffect x x' → StricterStep (settled s t e i x) (settled s t' e' i x')
-  settled-rel i z = record {
+  done-at-rel : (i : ℕ) {x x' : Effect} → StricterEffect x x' → StricterStep (doneAt s t e i x) (doneAt s t' e' i x')
+  done-at-rel i z = record {
     answer = record { code = refl; call = refl; sent = z .sent; identifier = z .identifier; counter = z .counter; notice = z .notice; number = z .number };
     station = station-same q s (framed-of p);
     calls = set-rel i q (z .call);
@@ -96,7 +96,7 @@ module _ (s : Station) {t t' : List Call} {e e' : Event} (q : Forall₂ Stricter
   acting : T (acts s t e) → T (acts s t' e') → StricterStep (step s t e) (step s t' e')
   acting u u' =
       let made : T (wellMade e) = done-made s t e (search and-l) in
-      rw (step-acts s t e u, step-acts s t' e' u', place-same q (framed-of p)) (settled-rel (place t e) (effect-rel (place t e) made))
+      rw (step-acts s t e u, step-acts s t' e' u', place-same q (framed-of p)) (done-at-rel (place t e) (effect-rel (place t e) made))
 
   idling : T (sound s t) → T (sound s t') → T (not (acts s t e)) → T (not (acts s t' e')) → StricterStep (step s t e) (step s t' e')
   idling a b u u' = rw (step-idle s t e u, step-idle s t' e' u', refusal-same q s a b p) (idle-rel (refusal s t e))

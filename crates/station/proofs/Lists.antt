@@ -8,11 +8,11 @@ use lib.Dec.{eqb}
 use lib.ListN.{length, getD, List·getD-map}
 use Rattle.ground.specs.Choice.{when_then_else_}
 use Rattle.event.specs.declared.Event.{Event}
-use Rattle.station.specs.Step.{Outcome, step, Turn, turn, turns, Ran, counted, runStep, runOn}
+use Rattle.station.specs.Step.{Outcome, step, TurnTaken, turn, turns, Ran, counted, runStep, runOn}
 use Rattle.station.specs.Demand2.{TurnsEach, OutcomesEach, OutcomesLength, RunCounts}
 
 -- whatever was counted before
-each : (r : Ran) (before : List Event) (e : Event) (behind : List Event) (d : Turn)
+each : (r : Ran) (before : List Event) (e : Event) (behind : List Event) (d : TurnTaken)
     → getD (turns (r .station) (r .calls) (before ++ (e ∷ behind))) (length before) d ≡ turn (runOn r before .station) (runOn r before .calls) e
 unfolding turns runOn
 each r [] e behind d = refl
@@ -23,9 +23,9 @@ turns-each s calls before e behind d = each (record { done = 0; refused = 0; sta
 
 pub outcomes-each : OutcomesEach
 outcomes-each s calls before e behind d =
-    let none : Turn = record { station = s; calls = calls; event = e; outcome = d } in
-    List·getD-map (λ (t : Turn). t .outcome) (turns s calls (before ++ (e ∷ behind))) (length before) none
-    ∙ ap (λ (t : Turn). t .outcome) (turns-each s calls before e behind none)
+    let none : TurnTaken = record { station = s; calls = calls; event = e; outcome = d } in
+    List·getD-map (λ (t : TurnTaken). t .outcome) (turns s calls (before ++ (e ∷ behind))) (length before) none
+    ∙ ap (λ (t : TurnTaken). t .outcome) (turns-each s calls before e behind none)
 
 pub outcomes-length : OutcomesLength
 unfolding turns

@@ -16,7 +16,7 @@ use Rattle.call.proofs.Made.{Made, opensOutgoing, opensIncoming, opensDiverted,
 use Rattle.station.specs.declared.Station.{Station}
 use Rattle.station.specs.Table.{at, place}
 use Rattle.station.specs.Refusals.{wrongCall}
-use Rattle.station.specs.Step.{Outcome, effectAt, settled, step}
+use Rattle.station.specs.Step.{Outcome, effectAt, doneAt, step}
 use Rattle.station.specs.Demand1.{codeOf}
 use Rattle.station.specs.Demand2.{Lowest, Names, DoneNames, OpenTakes}
 use Rattle.station.proofs.Numbers.{Passed}
@@ -37,7 +37,7 @@ within s calls e t p =
 pub record Acts (s : Station) (calls : List Call) (e : Event) (o : Outcome) : Type 0 where
   pub passed : Passed s calls e
   pub there : e .call < length calls
-  pub leaves : o ≡ settled s calls e (e .call) (effectAt s calls e (e .call))
+  pub leaves : o ≡ doneAt s calls e (e .call) (effectAt s calls e (e .call))
 
 acts : {s : Station} {calls : List Call} {e : Event} {o : Outcome} → Stepped s calls e o → T (names e) → place calls e ≡ e .call → o .answer .code ≡ 0 → Acts s calls e o
 acts (refuses n q) t h z = absurd (omega (arith, z))

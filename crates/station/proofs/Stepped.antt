@@ -12,17 +12,17 @@ use Rattle.call.specs.declared.Call.{Call}
 use Rattle.station.specs.declared.Station.{Station}
 use Rattle.station.specs.Table.{place}
 use Rattle.station.specs.Refusals.{refusal}
-use Rattle.station.specs.Step.{Outcome, refused, effectAt, settled, noneDue, done, byNumber, step}
+use Rattle.station.specs.Step.{Outcome, refused, effectAt, doneAt, noneDue, done, byNumber, step}
 use Rattle.station.proofs.Numbers.{Passed, passed}
 
 pub data Stepped (s : Station) (calls : List Call) (e : Event) : Outcome → Type 0 where
   refuses : (n : ℕ) → refusal s calls e ≡ suc n → Stepped s calls e (refused s calls (suc n))
   settles : Passed s calls e → place calls e < length calls
-      → Stepped s calls e (settled s calls e (place calls e) (effectAt s calls e (place calls e)))
+      → Stepped s calls e (doneAt s calls e (place calls e) (effectAt s calls e (place calls e)))
   passes : Passed s calls e → length calls ≤ place calls e → Stepped s calls e (noneDue s calls e)
 
 done-ways : (s : Station) (calls : List Call) (e : Event) → Passed s calls e → (b : Bool) → ltb (place calls e) (length calls) ≡ b
-    → Stepped s calls e (when b then settled s calls e (place calls e) (effectAt s calls e (place calls e)) else noneDue s calls e)
+    → Stepped s calls e (when b then doneAt s calls e (place calls e) (effectAt s calls e (place calls e)) else noneDue s calls e)
 done-ways s calls e p true q = settles p (ltb-true (place calls e) (length calls) q)
 done-ways s calls e p false q = passes p (ltb-false (place calls e) (length calls) q)
 

@@ -1,6 +1,6 @@
 -- Demand 1: the number of an answer is the page's, and what a refusal and a done event leave. The theorems are in
--- proofs/Demand1 and There. That every event has an answer is the contract of the code's `step`, which ends on every input and gives what
--- `step` gives here.
+-- proofs/Demand1 and There. That every event has an answer is the contract of `whipsail::whipsail_lent_step`, which ends on every input
+-- and gives what `step` gives here.
 use Prim.Native.Nat.{ℕ, zero, suc, _≤_, _<_}
 use mathlib.Core.Path.{_≡_}
 use mathlib.Core.Bool.{Bool, false, not}

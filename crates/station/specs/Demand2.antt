@@ -20,7 +20,7 @@ use Rattle.call.specs.Incoming.{counterSent, due, idle}
 use Rattle.station.specs.declared.Station.{Station}
 use Rattle.station.specs.Station.{limitOk, freshStation, emptyAnswer}
 use Rattle.station.specs.Table.{at, openIdentifiers, sound, identifierFor, place}
-use Rattle.station.specs.Step.{Outcome, step, Turn, turn, turns, outcomes, Ran, runOn, run}
+use Rattle.station.specs.Step.{Outcome, step, TurnTaken, turn, turns, outcomes, Ran, runOn, run}
 use Rattle.station.specs.Demand1.{codeOf}
 
 -- "Each done event leaves a sound table", and a refused one leaves it as it was
@@ -40,7 +40,7 @@ RunSound =
 -- each event of a list acts on what those before it left, and none is passed over
 abbrev pub TurnsEach : Type 0
 TurnsEach =
-    (s : Station) (calls : List Call) (before : List Event) (e : Event) (behind : List Event) (d : Turn)
+    (s : Station) (calls : List Call) (before : List Event) (e : Event) (behind : List Event) (d : TurnTaken)
     → getD (turns s calls (before ++ (e ∷ behind))) (length before) d ≡ turn (run s calls before .station) (run s calls before .calls) e
 
 abbrev pub OutcomesEach : Type 0

@@ -21,7 +21,7 @@ use Rattle.station.specs.declared.Station.{Station}
 use Rattle.station.specs.declared.Answer.{Answer}
 use Rattle.station.specs.Table.{sound, place}
 use Rattle.station.specs.Refusals.{refusal}
-use Rattle.station.specs.Step.{Outcome, Turn, placeIn, turns, outcomes}
+use Rattle.station.specs.Step.{Outcome, TurnTaken, placeIn, turns, outcomes}
 
 -- "the same code, call, identifier, counter and messages (arguments included)"; "a notice or a number only where the other does"
 pub record StricterAnswer (a a' : Answer) : Type 0 where
@@ -80,20 +80,20 @@ abbrev pub acts : Station → List Call → Event → Bool
 acts s calls e = eqb (refusal s calls e) 0 && ltb (place calls e) (length calls)
 
 -- the same of a turn
-abbrev pub actsIn : Turn → Bool
+abbrev pub actsIn : TurnTaken → Bool
 actsIn t = acts (t .station) (t .calls) (t .event)
 
 -- an event that is done touched its call, or one before it did; an open begins a call
 abbrev pub touchedBy : (ℕ → Bool) → List Call → Event → Event → Bool
 touchedBy touched calls e e' = not (opens e) && (touched (place calls e) || tightened e e')
 
-abbrev pub touchedAfter : (ℕ → Bool) → Turn → Event → ℕ → Bool
+abbrev pub touchedAfter : (ℕ → Bool) → TurnTaken → Event → ℕ → Bool
 touchedAfter touched t e' i = when actsIn t && eqb i (placeIn t) then touchedBy touched (t .calls) (t .event) e' else touched i
 
 -- "In calls where nothing was tightened the whole answers are equal": wherever the event doesn't act on a call that was touched
-pub data WholeAnswers : (ℕ → Bool) → List Turn → List Turn → Type 0 where
+pub data WholeAnswers : (ℕ → Bool) → List TurnTaken → List TurnTaken → Type 0 where
   over : {touched : ℕ → Bool} → WholeAnswers touched [] []
-  onward : {touched : ℕ → Bool} {t t' : Turn} {ts ts' : List Turn}
+  onward : {touched : ℕ → Bool} {t t' : TurnTaken} {ts ts' : List TurnTaken}
       → (T (not (actsIn t && touchedBy touched (t .calls) (t .event) (t' .event))) → t' .outcome .answer ≡ t .outcome .answer)
       → WholeAnswers (touchedAfter touched t (t' .event)) ts ts'
       → WholeAnswers touched (t ∷ ts) (t' ∷ ts')

@@ -57,13 +57,13 @@ abbrev pub effectAt : Station → List Call → Event → ℕ → Effect
 effectAt s calls e i = act (at calls i) e (identifierFor s calls)
 
 -- the record at a place after its effect, and the answer
-abbrev pub settled : Station → List Call → Event → ℕ → Effect → Outcome
-settled s calls e i x = record { answer = answerOf i x; station = stationAfter s calls e; calls = set calls i (x .call) }
+abbrev pub doneAt : Station → List Call → Event → ℕ → Effect → Outcome
+doneAt s calls e i x = record { answer = answerOf i x; station = stationAfter s calls e; calls = set calls i (x .call) }
 
 -- "0: done"
 unfoldable pub done : Station → List Call → Event → Outcome
 done s calls e =
-    when ltb (place calls e) (length calls) then settled s calls e (place calls e) (effectAt s calls e (place calls e)) else
+    when ltb (place calls e) (length calls) then doneAt s calls e (place calls e) (effectAt s calls e (place calls e)) else
     noneDue s calls e
 
 -- done where the number is 0, else refused with it
@@ -79,21 +79,21 @@ unfoldable pub stepOnSound : Station → List Call → Event → Outcome
 stepOnSound s calls e = byNumber s calls e (refusalOnSound s calls e)
 
 -- one turn of a run: the station and the records before the event, the event, and what came of it
-pub record Turn : Type 0 where
+pub record TurnTaken : Type 0 where
   pub station : Station
   pub calls : List Call
   pub event : Event
   pub outcome : Outcome
 
-abbrev pub turn : Station → List Call → Event → Turn
+abbrev pub turn : Station → List Call → Event → TurnTaken
 turn s calls e = record { station = s; calls = calls; event = e; outcome = step s calls e }
 
 -- where its event acts
-abbrev pub placeIn : Turn → ℕ
+abbrev pub placeIn : TurnTaken → ℕ
 placeIn t = place (t .calls) (t .event)
 
 -- the turns of a list of events, in order, each on what the one before it left: what is said of a run is said of them
-unfoldable pub turns : Station → List Call → List Event → List Turn
+unfoldable pub turns : Station → List Call → List Event → List TurnTaken
 turns s calls [] = []
 turns s calls (e ∷ rest) = let t = turn s calls e in t ∷ turns (t .outcome .station) (t .outcome .calls) rest
 

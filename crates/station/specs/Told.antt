@@ -16,17 +16,17 @@ use Rattle.call.specs.Told.{tells, listAfter, Remembers, Learns}
 use Rattle.station.specs.declared.Station.{Station}
 use Rattle.station.specs.Station.{limitOk, freshStation}
 use Rattle.station.specs.Table.{at, sound}
-use Rattle.station.specs.Step.{Turn, placeIn, turns}
+use Rattle.station.specs.Step.{TurnTaken, placeIn, turns}
 use Rattle.station.specs.Demand3.{actsIn}
 
 -- `told i` is the list of what the call in record i took account of, the latest first.
 
 -- what an event brings to the CDO of the call that it acts on: nothing if it is refused
-abbrev pub news : Turn → List Told
+abbrev pub news : TurnTaken → List Told
 news t = when actsIn t then tells (at (t .calls) (placeIn t)) (t .event) else []
 
 -- the lists after an event: at its place the list goes on, begins anew with an open, and ends where the record is free
-abbrev pub toldAfter : (ℕ → List Told) → Turn → ℕ → List Told
+abbrev pub toldAfter : (ℕ → List Told) → TurnTaken → ℕ → List Told
 toldAfter told t i =
     when actsIn t && eqb i (placeIn t) then listAfter (told i) (at (t .calls) i) (t .event) (at (t .outcome .calls) i) else
     told i
@@ -36,16 +36,16 @@ abbrev pub Fits : (ℕ → List Told) → List Call → Type 0
 Fits told calls = (i : ℕ) → Remembers (told i) (at calls i .history)
 
 -- one turn, where `told` are the lists before it
-pub record ByLists (told : ℕ → List Told) (t : Turn) : Type 0 where
+pub record ByLists (told : ℕ → List Told) (t : TurnTaken) : Type 0 where
   -- the answer's notice and number are as the list of its call says, and none where the event brings nothing
   pub learns : Learns (told (placeIn t)) (news t) (t .outcome .answer .notice) (t .outcome .answer .number)
   -- what is stored after it is the history of the lists after it
   pub fits : Fits (toldAfter told t) (t .outcome .calls)
 
 -- each turn of a run, with the lists that those before it left
-pub data EachByLists : (ℕ → List Told) → List Turn → Type 0 where
+pub data EachByLists : (ℕ → List Told) → List TurnTaken → Type 0 where
   over : {told : ℕ → List Told} → EachByLists told []
-  onward : {told : ℕ → List Told} {t : Turn} {ts : List Turn} → ByLists told t → EachByLists (toldAfter told t) ts → EachByLists told (t ∷ ts)
+  onward : {told : ℕ → List Told} {t : TurnTaken} {ts : List TurnTaken} → ByLists told t → EachByLists (toldAfter told t) ts → EachByLists told (t ∷ ts)
 
 -- from a sound table, with lists that fit it
 abbrev pub RunsByLists : Type 0

@@ -1,4 +1,4 @@
--- What the walk of `column` cites of an array of 64 numbers in a local: its type, how its machine value is spelled, and its laws; and how the column goes on by one record.
+-- What the walk of `column` cites of an array of 64 numbers in a local: its type, how its machine value is spelled, and its laws; and the column's length.
 --     array-in, array-out      a local array is the row of its elements, and back
 -- Assumes `Given`.
 use mathlib.Core.Path.{_≡_, refl, sym, ap, _∙_}
@@ -30,14 +30,7 @@ use denote.Steps.{only, peeks}
 use Rattle.call.specs.declared.Call.{Call}
 use Rattle.call.specs.Record.{freeCall}
 use Rattle.notes.specs.Mask.{over}
-use Rattle.notes.specs.Notes.{heldBy, frees}
-use Rattle.notes.proofs.Kept.{map-set}
-use Rattle.notes.proofs.Mask.{over-next}
-use Rattle.survey.specs.Column.{heldIn}
-
--- the column of the first i records, and one more
-pub held-next : (i : ℕ) (l : List Call) → i < length l → i < 64 → set (heldIn i l) i (heldBy (getD l i freeCall)) ≡ heldIn (i + 1) l
-held-next i l h k = sym (map-set heldBy (over i l frees) i (getD l i freeCall)) ∙ ap (map heldBy) (over-next l frees i freeCall h k)
+use Rattle.notes.specs.Notes.{heldBy, frees, columnOf}
 
 over-length : (i : ℕ) (new old : List Call) → i ≤ length new → i ≤ length old → length (over i new old) ≡ length old
 over-length zero new old h k = refl
@@ -45,7 +38,7 @@ over-length (suc i) [] old h k = absurd (not-suc-le-zero h)
 over-length (suc i) (a ∷ new) [] h k = absurd (not-suc-le-zero k)
 over-length (suc i) (a ∷ new) (b ∷ old) h k = ap suc (over-length i new old (le-of-suc-le-suc h) (le-of-suc-le-suc k))
 
-pub held-length : (i : ℕ) (l : List Call) → i ≤ length l → i ≤ 64 → length (heldIn i l) ≡ 64
+pub held-length : (i : ℕ) (l : List Call) → i ≤ length l → i ≤ 64 → length (columnOf i l) ≡ 64
 held-length i l h k = length-map (over i l frees) heldBy ∙ over-length i l frees h k
 
 -- of no record

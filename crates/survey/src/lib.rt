@@ -1,9 +1,10 @@
-// One walk over the records that a host lends, from the last to the first: what a step asks of the whole table, in a few numbers.
+// The walks over the records that a host lends. `survey`, from the last to the first, notes what a step asks of the whole table in
+// a few numbers; `column`, where it is needed, copies the open identifiers out.
 ghost use mathlib.Core.Path.{_≡_};
-ghost use Prim.Native.Nat.{_^_, _≤_, _<_};
+ghost use Prim.Native.Nat.{_≤_, _<_};
 ghost use lib.ListN.{length, take};
 ghost use Rattle.survey.specs.Survey.{has, withBit, slot, freeWith, dueWith, marksWith, clashWith, unseenOf, notedOf, surveyOf};
-ghost use Rattle.survey.specs.Column.{heldIn};
+ghost use Rattle.notes.specs.Notes.{columnOf};
 use call::Call;
 
 // What is asked beside the table: the station's last time, and the time below which an open request's start is due.
@@ -22,14 +23,6 @@ pub struct Noted {
     pub marks: u64,
 }
 
-// A number with bit k alone.
-fn bit(k: u64) -> u64
-    requires { ⌜ k < 64 ⌝ }
-    ensures { λ r. ⌜ r ≡ 2 ^ k ⌝ }
-{
-    1u64 << k
-}
-
 // Whether a mask has bit k.
 fn has(mask: u64, k: u64) -> bool
     requires { ⌜ k < 64 ⌝ }
@@ -46,7 +39,7 @@ fn with_bit(mask: u64, k: u64) -> u64
     if has(mask, k) {
         return mask;
     }
-    mask + bit(k)
+    mask + notes::bit(k as usize)
 }
 
 // The bit that marks an identifier.
@@ -147,7 +140,7 @@ pub fn survey(table: &[Call], n: usize, q: Asked) -> Noted
 // The identifiers of the open requests among the first n records, copied out: each plus 1, and 0 where none is open.
 pub fn column(table: &[Call], n: usize) -> [u32; 64]
     requires { ⌜ (n ≤ length (now table)) × (n ≤ 64) ⌝ }
-    ensures { λ r. ⌜ r ≡ heldIn n (now (table .entry)) ⌝ }
+    ensures { λ r. ⌜ r ≡ columnOf n (now (table .entry)) ⌝ }
 {
     let mut held = [0u32; 64];
     let mut i = 0;

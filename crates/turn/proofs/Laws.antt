@@ -1,4 +1,4 @@
--- The law of a turn: what is decided on what is seen of a table is the definition's step on it, on every table. Assumes nothing.
+-- The law of a turn: what is decided on what is seen of a table is `stepOnSound` on it, on every table; with the test of the table before it, `step`. Assumes nothing.
 use Prim.Native.Nat.{ℕ, zero, suc, _+_, _≤_, _<_}
 use mathlib.Core.Bool.{Bool, true, false, _&&_, _||_, not}
 use mathlib.Core.List.{List}
@@ -87,7 +87,7 @@ module _ (s : Station) (calls : List Call) (e : Event) (v : Seen) (z : Sees s ca
   pub same-station : stationOn s e (v .identifier) ≡ stationAfter s calls e
   same-station = by-cases (diverts e) (λ t. rw (t, z .drawn t)) (λ t. rw t)
 
-  -- the law of a turn: find the place, read, decide, write back is the definition's step
+  -- the law of a turn: find the place, read, decide, write back is the definition's step without the test of the table
   pub turn-steps : outcomeOf s calls e v (turnOf s e v) ≡ stepOnSound s calls e
   unfolding turnOf stepOnSound byNumber done
   turn-steps =

@@ -1,4 +1,4 @@
--- The numbers of an event by its kind: an open, a clock event, an event on a call; and the code's order of the tests, which is the page's. Assumes nothing.
+-- The numbers of an event by its kind: an open, a clock event, an event on a call; and the code's order of the tests, which gives 8 where it gives 4 and has the page's numbers all the same. Assumes nothing.
 use Prim.Native.Nat.{ℕ, _≤_, _<_}
 use mathlib.Core.Bool.{Bool, true, false, _&&_, _||_, not}
 use mathlib.Core.List.{List}
@@ -26,7 +26,7 @@ use Rattle.station.specs.Refusals.{early, illMade, wrongCall, noSuchCall, notTa
 use Rattle.station.specs.Step.{effectAt}
 use Rattle.event.proofs.Groups.{opener, no-opener, no-incoming, no-outgoing, past-incoming}
 use Rattle.turn.specs.declared.Seen.{Seen}
-use Rattle.turn.specs.Turn.{beyond, noCall, numberOf}
+use Rattle.turn.specs.Turn.{beyond, noRecord, numberOf}
 use Rattle.turn.proofs.Sorts.{kind-low, kind-high, names}
 
 -- two tests with one number
@@ -104,7 +104,7 @@ module _ (s : Station) (e : Event) (far : Bool) (c : Call) (full : Bool) where
 abbrev pub later : Station → Event → Seen → ℕ
 later s e v =
     when not (wellMade e) then 3 else
-    when beyond v || wrongCall (v .call) e then noCall (e .kind) else
+    when beyond v || wrongCall (v .call) e then noRecord (e .kind) else
     when stateForbids (v .call) e then 5 else
     when otherIdentifier (v .call) e then 6 else
     when overLimit s (v .call) e then 7 else

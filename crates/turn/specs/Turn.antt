@@ -7,7 +7,7 @@ use lib.Dec.{ltb, leb, eqb}
 use lib.ListN.{length, set}
 use Rattle.ground.specs.Choice.{when_then_else_}
 use Rattle.event.specs.declared.Event.{Event}
-use Rattle.event.specs.Kinds.{opens, ofIncoming, ofOutgoing, ends, clock, diverts}
+use Rattle.event.specs.Kinds.{OpenOutgoing, UserAlerted, Clock, opens, ofIncoming, ofOutgoing, ends, clock, diverts}
 use Rattle.identifier.specs.Identifier.{after}
 use Rattle.call.specs.declared.Call.{Call}
 use Rattle.call.specs.State.{stateForbids}
@@ -46,11 +46,11 @@ numberOf s e v =
     0
 
 -- the number where an event finds no record of its own, by its kind: "8: kind 1 to 3: no free record", "4: call past the table's end"
-abbrev pub noCall : ℕ → ℕ
-noCall kind =
-    when ltb kind 1 then 4 else
-    when ltb kind 4 then 8 else
-    when eqb kind 10 then 0 else
+abbrev pub noRecord : ℕ → ℕ
+noRecord kind =
+    when ltb kind OpenOutgoing then 4 else
+    when ltb kind UserAlerted then 8 else
+    when eqb kind Clock then 0 else
     4
 
 -- one event where the table was found sound

@@ -3,7 +3,7 @@
 ghost use mathlib.Core.Path.{_≡_};
 ghost use Prim.Native.Nat.{ℕ, _≤_};
 ghost use Rattle.station.specs.Step.{answerOf};
-ghost use Rattle.turn.specs.Turn.{placeOf, noCall, numberOf, turnOf, stationOn};
+ghost use Rattle.turn.specs.Turn.{placeOf, noRecord, numberOf, turnOf, stationOn};
 use call::Call;
 use call::Effect;
 use event::Event;
@@ -42,8 +42,8 @@ pub fn place_of(e: Event, free: usize, due: usize) -> usize
 }
 
 // "4: call past the table's end, .."; "8: kind 1 to 3: no free record"; a clock event with none due is done.
-fn no_call(kind: u8) -> u8
-    ensures { λ r. ⌜ r ≡ noCall kind ⌝ }
+fn no_record(kind: u8) -> u8
+    ensures { λ r. ⌜ r ≡ noRecord kind ⌝ }
 {
     match kind {
         1..=3 => 8,
@@ -52,8 +52,8 @@ fn no_call(kind: u8) -> u8
     }
 }
 
-// "Numbers of the answers, tested in this order", from 3 on; 0 is done. The kind comes by itself: as a literal it lets the
-// compiler make each arm of `turned` a test of its own.
+// Numbers 3 to 8; 0 is done. Tested in the page's order from 3 to 7; 8 is given where 4 is, by the kind: an open has none of 4
+// to 7. The kind comes by itself: as a literal it lets the compiler make each arm of `turned` a test of its own.
 fn number(kind: u8, s: Station, e: Event, seen: Seen) -> u8
     requires { ⌜ (kind ≡ e .kind) × (s .last ≤ e .time) ⌝ }
     ensures { λ r. ⌜ r ≡ numberOf s e seen ⌝ }
@@ -66,7 +66,7 @@ fn number(kind: u8, s: Station, e: Event, seen: Seen) -> u8
     }
     let wrong = refusal::wrong_call(kind, c, e);
     if beyond | wrong {
-        return no_call(kind);
+        return no_record(kind);
     }
     if refusal::state_forbids(kind, c, e) {
         return 5;

@@ -35,16 +35,16 @@ use Rattle.lent.proofs.Input as I
 use Rattle.lent.proofs.Input.Laws as I′
 use Rattle.lent.proofs.Decision as D
 use Rattle.lent.proofs.Decision.Laws as D′
-use Rattle.lent.proofs.Told as N
-use Rattle.lent.proofs.Told.Laws as N′
+use Rattle.lent.proofs.Reply as N
+use Rattle.lent.proofs.Reply.Laws as N′
 use Rattle.lent.proofs.looked as looked
 use Rattle.slice.proofs.Row.{R, vals, makes}
 use Rattle.slice.proofs.settle as settle
 
 -- ---- with no model
 -- what whoever holds what `looked` gives knows of its fields
-pub is-told : (t : Decision) (u : Val) → Is D.the-row t (u ∷ []) → Is N.the-row (t .told) (N′.lowered (t .told) ∷ [])
-is-told t u it = LL.owed D.the-type D′.the-laws t (u ∷ []) it .0
+pub is-reply : (t : Decision) (u : Val) → Is D.the-row t (u ∷ []) → Is N.the-row (t .reply) (N′.lowered (t .reply) ∷ [])
+is-reply t u it = LL.owed D.the-type D′.the-laws t (u ∷ []) it .0
 
 pub is-place : (t : Decision) (u : Val) → Is D.the-row t (u ∷ []) → t .place < 2 ^ 64
 is-place t u it = LL.owed D.the-type D′.the-laws t (u ∷ []) it .1 .0 .1

@@ -11,7 +11,7 @@ use Rattle.lent.specs.declared.Input.{Input}
 use Rattle.lent.specs.declared.Decision.{Decision}
 use Rattle.lent.specs.Lent.{decisionOn, outcomeBy}
 use Rattle.lent.proofs.Laws.{decision-within, decision-steps}
-use Rattle.whipsail.specs.Lent.{outcome, toldOf, tableAfter}
+use Rattle.whipsail.specs.Lent.{outcome, replyOf, tableAfter}
 
 -- the decision on the table that is lent
 abbrev pub on-table : List Call → Input → Decision
@@ -24,5 +24,5 @@ module _ (ys : List Call) (input : Input) (t : Decision) (e₃ : t ≡ on-table 
   stepped : outcomeBy ys t ≡ outcome ys input
   stepped = ap (outcomeBy ys) e₃ ∙ decision-steps (input .station) ys (input .event)
 
-  pub said : (zs : List Call) → zs ≡ settledAt (t .place) (t .count) (t .call) ys → (t .told ≡ toldOf ys input) × (zs ≡ tableAfter ys input)
+  pub said : (zs : List Call) → zs ≡ settledAt (t .place) (t .count) (t .call) ys → (t .reply ≡ replyOf ys input) × (zs ≡ tableAfter ys input)
   said zs e₄ = (ap (λ (o : Outcome). record { answer = o .answer; station = o .station }) stepped, e₄ ∙ ap (λ (o : Outcome). o .calls) stepped)

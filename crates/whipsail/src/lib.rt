@@ -4,12 +4,12 @@ ghost use mathlib.Core.Path.{_≡_};
 ghost use Rattle.event.specs.WellMade.{wellMade};
 ghost use Rattle.station.specs.Station.{freshOf, shortForm};
 ghost use Rattle.rehearsal.specs.Rehearsal.{rehearsalOf};
-ghost use Rattle.whipsail.specs.Lent.{toldOf, tableAfter};
+ghost use Rattle.whipsail.specs.Lent.{replyOf, tableAfter};
 ghost use Rattle.whipsail.specs.Read.{notRead, readAt};
 use call::Call;
 use event::Event;
 use lent::Input;
-use lent::Told;
+use lent::Reply;
 use rehearsal::Rehearsed;
 use station::Made;
 use station::Station;
@@ -90,12 +90,12 @@ pub extern "C" fn whipsail_well_made(e: Event) -> bool
 
 // One event on the records that the host lends, of any number: at most one of them is written.
 #[no_mangle]
-pub extern "C" fn whipsail_lent_step(table: &mut [Call], input: Input) -> Told
-    ensures { λ r. ⌜ (r ≡ toldOf (now (table .entry)) input) × (now (table .exit) ≡ tableAfter (now (table .entry)) input) ⌝ }
+pub extern "C" fn whipsail_lent_step(table: &mut [Call], input: Input) -> Reply
+    ensures { λ r. ⌜ (r ≡ replyOf (now (table .entry)) input) × (now (table .exit) ≡ tableAfter (now (table .entry)) input) ⌝ }
 {
     let out = lent::looked(table, input);
     slice::settle(table, out.place, out.count, out.call);
-    out.told
+    out.reply
 }
 
 // Who rings if a call is offered to this panel of the plan first: four numbers for each panel.

@@ -174,6 +174,12 @@ impl Engine {
             .collect()
     }
 
+    /// The archive's format number.
+    pub fn format(&mut self) -> u32 {
+        let reply = self.ask(b"V", 4);
+        u32::from_le_bytes(reply.try_into().expect("four bytes"))
+    }
+
     pub fn fresh(&mut self, limit: u8) -> (u8, Station) {
         Reader(&self.ask(&[b'F', limit], memory::MADE)).made()
     }

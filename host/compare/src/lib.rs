@@ -7,9 +7,12 @@
 pub mod check;
 pub mod difference;
 pub mod engine;
+pub mod exports;
+pub mod headers;
 pub mod hostile;
 pub mod memory;
 pub mod plans;
+pub mod program;
 pub mod tables;
 pub mod wire;
 pub mod wrapped;

@@ -96,7 +96,7 @@ pub fn answer(told: Result<whipsail::Answer, Refusal>) -> Answer {
 fn message(message: whipsail::Message) -> Message {
     let bare = Message {
         letter: message.letter() as u8,
-        leg: Leg::number(message.leg()),
+        leg: message.leg().map_or(0, Leg::number),
         ..Message::default()
     };
     match message {
@@ -143,6 +143,8 @@ fn message(message: whipsail::Message) -> Message {
             original: number(original),
             ..bare
         },
+        // One that the wrapper does not know differs from every message of the model.
+        whipsail::Message::Other(other) => panic!("an unknown message: {other:?}"),
         _ => bare,
     }
 }

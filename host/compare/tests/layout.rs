@@ -98,6 +98,14 @@ fn laid(fields: &[(String, String)], structs: &BTreeMap<String, Vec<(String, Str
     (end.next_multiple_of(widest), places)
 }
 
+/// A crate's name of a struct that has another in the header, where hosts use it.
+fn in_crates(name: &str) -> &str {
+    match name {
+        "told" => "reply",
+        _ => name,
+    }
+}
+
 #[test]
 fn the_header_has_the_structs_of_the_crates() {
     let structs = declared();
@@ -105,7 +113,7 @@ fn the_header_has_the_structs_of_the_crates() {
         for (name, layout) in header(archive) {
             let fields = structs
                 .iter()
-                .find(|(declared, _)| declared.to_lowercase() == name)
+                .find(|(declared, _)| declared.to_lowercase() == in_crates(&name))
                 .unwrap_or_else(|| panic!("no crate has the struct {name}"))
                 .1;
             assert_eq!(layout, laid(fields, &structs), "{name}");

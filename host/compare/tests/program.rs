@@ -3,35 +3,20 @@
 #![forbid(unsafe_code)]
 
 use compare::check::first_seed;
+use compare::program::{on_file, on_packets, Said};
 use model::plan::{lines, rehearse, text, write};
 use model::plans;
 use model::random::Random;
-use std::io::Write;
-use std::path::Path;
-use std::process::{Command, Stdio};
 
 const TEXTS: u64 = 600;
 
-/// What the program writes, on standard output and on standard error.
-fn said(input: &[u8]) -> (String, String) {
-    let root = Path::new(env!("CARGO_MANIFEST_DIR")).join("../..");
-    let mut program = Command::new(root.join("host/c/run"))
-        .arg(root.join("target/bin/rehearse"))
-        .stdin(Stdio::piped())
-        .stdout(Stdio::piped())
-        .stderr(Stdio::piped())
-        .spawn()
-        .expect("target/bin/rehearse runs");
-    let mut pipe = program.stdin.take().expect("a pipe");
-    pipe.write_all(input).expect("the text is taken");
-    drop(pipe);
-    let done = program.wait_with_output().expect("it ends");
-    let words = |bytes| String::from_utf8(bytes).expect("plain text");
-    (words(done.stdout), words(done.stderr))
+/// What the program writes of this text.
+fn said(input: &[u8]) -> Said {
+    on_file("rehearse", input)
 }
 
 /// What the model says of the text.
-fn expected(input: &[u8]) -> (String, String) {
+fn expected(input: &[u8]) -> Said {
     match text(input) {
         Ok((panels, start)) => (lines(&rehearse(&panels, start)), String::new()),
         Err(line) => (
@@ -94,5 +79,18 @@ fn texts_at_the_edges() {
     ];
     for input in texts {
         assert_eq!(said(input), expected(input), "{}", input.escape_ascii());
+    }
+}
+
+/// A text is read in pieces, wherever it is cut.
+#[test]
+fn texts_by_short_reads() {
+    let mut random = Random::new(first_seed());
+    for length in [1, 2, 3, 7, 1000] {
+        let (panels, start) = plans::any(&mut random);
+        let input = write(&panels, start).into_bytes();
+        let pieces: Vec<&[u8]> = input.chunks(length).collect();
+        let read = on_packets("rehearse", &pieces);
+        assert_eq!(read, expected(&input), "reads of {length}");
     }
 }

@@ -60,7 +60,8 @@ fn line(position: usize, told: &Result<Answer, Refusal>) -> String {
     };
     let messages: String = answer
         .messages()
-        .map(|message| format!("{}{}", message.letter(), message.leg().number()))
+        .map(|message| (message.letter(), message.leg().map_or(0, Leg::number)))
+        .map(|(letter, leg)| format!("{letter}{leg}"))
         .collect();
     [
         position.to_string(),

@@ -1,6 +1,6 @@
 //! What a done event gives.
 
-use crate::{raw, Choice, Leg, Number, Reason};
+use crate::{raw, words, Choice, Leg, Number, Reason, Refusal};
 
 /// The answer to a done event.
 #[derive(Clone, Copy, Debug, PartialEq, Eq)]
@@ -22,8 +22,13 @@ pub struct Answer {
     pub counter: Option<u8>,
 }
 
-/// A message to send, on its leg.
+/// A message as plain numbers: those of [`Message::Other`].
+pub use crate::raw::Message as PlainMessage;
+
+/// A message to send with its arguments, on its leg as that was numbered before
+/// the event; which connection is which leg afterwards says [`Leg`].
 #[derive(Clone, Copy, Debug, PartialEq, Eq)]
+#[non_exhaustive]
 #[allow(missing_docs)] // fields that are named by what they hold
 pub enum Message {
     /// ALERTING.
@@ -53,9 +58,11 @@ pub enum Message {
     Result { leg: Leg, identifier: u16 },
     /// Its return error.
     Error { leg: Leg, identifier: u16 },
-    /// RELEASE COMPLETE.
+    /// RELEASE COMPLETE, which ends the leg.
     ReleaseComplete { leg: Leg },
-    /// SETUP with divertingLegInformation2 to the destination.
+    /// SETUP with divertingLegInformation2 to the destination, on a connection of
+    /// its own: it is the leg that is named, from now on. Where that is the first, the
+    /// messages before it go on the connection that was the first.
     Setup {
         leg: Leg,
         reason: Reason,
@@ -66,6 +73,10 @@ pub enum Message {
     },
     /// cfnrDivertedLegFailed.
     LegFailed { leg: Leg },
+    /// One that this wrapper does not know, or not with these arguments, of a later
+    /// archive. A host sends nothing in its place, sends the others, and reports
+    /// the letter: what it leaves out, the far end waits for.
+    Other(PlainMessage),
 }
 
 impl Answer {
@@ -74,15 +85,19 @@ impl Answer {
         self.sent.into_iter().flatten()
     }
 
-    pub(crate) fn read(a: &raw::Answer) -> Answer {
-        Answer {
+    /// What any code but that of a done event says is a refusal.
+    pub(crate) fn read(a: &raw::Answer) -> Result<Answer, Refusal> {
+        if a.code != 0 {
+            return Err(Refusal::of(a.code));
+        }
+        Ok(Answer {
             call: (a.call != 255).then_some(a.call),
             sent: a.sent.map(|message| Message::read(&message)),
-            notice: Reason::of(a.notice),
+            notice: (a.notice != 255).then(|| Reason::of(a.notice)),
             number: Number::new(a.number),
             identifier: u16::try_from(a.identifier).ok(),
             counter: (a.counter != 0).then_some(a.counter),
-        }
+        })
     }
 }
 
@@ -99,12 +114,19 @@ impl Message {
             Message::ReleaseComplete { .. } => 'X',
             Message::Setup { .. } => 'S',
             Message::LegFailed { .. } => 'F',
+            Message::Other(message) => message.letter as char,
         }
     }
 
-    /// The leg to send it on.
-    pub const fn leg(&self) -> Leg {
-        match *self {
+    /// In words.
+    pub const fn text(&self) -> &'static str {
+        words::letter(self.letter() as u8)
+    }
+
+    /// The leg to send it on; none of [`Message::Other`] alone, where its number is
+    /// that of no leg.
+    pub const fn leg(&self) -> Option<Leg> {
+        Some(match *self {
             Message::Alerting { leg }
             | Message::Connect { leg }
             | Message::ConnectDli3 { leg, .. }
@@ -114,12 +136,19 @@ impl Message {
             | Message::ReleaseComplete { leg }
             | Message::Setup { leg, .. }
             | Message::LegFailed { leg } => leg,
-        }
+            Message::Other(message) => return Leg::of(message.leg),
+        })
     }
 
-    /// None of letter 0. By the definitions the engine sends these letters alone, and
-    /// no leg, reason, option or number that is not one.
-    fn read(m: &raw::Message) -> Option<Message> {
+    /// None of letter 0.
+    pub(crate) fn read(m: &raw::Message) -> Option<Message> {
+        let sent = m.letter != 0;
+        sent.then(|| Message::known(m).unwrap_or(Message::Other(*m)))
+    }
+
+    /// By the definitions the engine sends these letters alone, and no leg, option
+    /// or number that is not one.
+    fn known(m: &raw::Message) -> Option<Message> {
         let leg = Leg::of(m.leg)?;
         let identifier = m.identifier;
         Some(match m.letter {
@@ -132,7 +161,7 @@ impl Message {
             },
             b'I' => Message::Invoke {
                 leg,
-                reason: Reason::of(m.reason)?,
+                reason: Reason::of(m.reason),
                 option: Choice::of(m.option)?,
                 counter: m.counter,
                 identifier,
@@ -145,7 +174,7 @@ impl Message {
             b'X' => Message::ReleaseComplete { leg },
             b'S' => Message::Setup {
                 leg,
-                reason: Reason::of(m.reason)?,
+                reason: Reason::of(m.reason),
                 counter: m.counter,
                 destination: Number::new(m.destination)?,
                 diverting: Number::new(m.diverting)?,

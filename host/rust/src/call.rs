@@ -114,12 +114,14 @@ impl Call {
         Basic::of(self.basic)
     }
 
-    /// The party on leg 1 of an outgoing call.
+    /// The party on leg 1 of an outgoing call; after an event, the one that is
+    /// leg 1 then ([`Leg`](crate::Leg)).
     pub const fn party(&self) -> Option<Number> {
         Number::new(self.party)
     }
 
-    /// The party on leg 2 of an outgoing call, while a no-reply diversion tries it.
+    /// The party on leg 2 of an outgoing call, while a no-reply diversion tries it;
+    /// where there is none, there is no leg 2.
     pub const fn forwarded(&self) -> Option<Number> {
         Number::new(self.waiting.number)
     }
@@ -160,10 +162,10 @@ impl Call {
 
     /// The open request to divert an incoming call.
     pub const fn request(&self) -> Option<Request> {
-        match (self.cds, Reason::of(self.reason)) {
-            (1, Some(reason)) => Some(Request {
+        match self.cds {
+            1 => Some(Request {
                 identifier: self.identifier,
-                reason,
+                reason: Reason::of(self.reason),
                 start: self.start,
             }),
             _ => None,
@@ -173,18 +175,19 @@ impl Call {
     /// The reason of a request that was granted, while the call still stands.
     pub const fn granted(&self) -> Option<Reason> {
         match self.granted {
-            1 => Reason::of(self.reason),
+            1 => Some(Reason::of(self.reason)),
             _ => None,
         }
     }
 
-    /// The 40 bytes as they lie in this machine's memory, to keep them elsewhere.
+    /// The 40 bytes as they lie in this machine's memory, to keep them elsewhere
+    /// with [`FORMAT`](crate::FORMAT) beside them.
     /// Bytes 29 to 31 are padding, and may be anything: leave them out of a checksum.
     pub fn to_bytes(&self) -> [u8; 40] {
         raw::bytes_of(*self)
     }
 
-    /// The record of bytes that were kept. Any bytes will do: a table that is
+    /// The record of bytes that were kept under this [`FORMAT`](crate::FORMAT). Any bytes will do: a table that is
     /// not sound is refused when it is lent.
     pub fn from_bytes(bytes: [u8; 40]) -> Call {
         raw::call_of(bytes)

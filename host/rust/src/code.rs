@@ -25,10 +25,43 @@ macro_rules! numbers {
         }
     };
 }
-pub(crate) use numbers;
+/// The same of numbers that the library hands out, to which a later archive may
+/// add: one that is not known here is kept as it is.
+macro_rules! open_numbers {
+    ($(#[$said:meta])* $name:ident { $($(#[$each:meta])* $case:ident = $number:literal,)* }) => {
+        $(#[$said])*
+        #[derive(Clone, Copy, PartialEq, Eq, PartialOrd, Ord, Hash)]
+        #[non_exhaustive]
+        pub enum $name {
+            $($(#[$each])* $case,)*
+            /// A number that this wrapper does not know; `of` makes it of no other.
+            Other(u8),
+        }
 
-numbers! {
-    /// Why a call is diverted.
+        impl $name {
+            /// The number that stands for it.
+            pub const fn number(self) -> u8 {
+                match self {
+                    $(Self::$case => $number,)*
+                    Self::Other(number) => number,
+                }
+            }
+
+            /// What a number stands for.
+            pub const fn of(number: u8) -> Self {
+                match number {
+                    $($number => Self::$case,)*
+                    _ => Self::Other(number),
+                }
+            }
+        }
+    };
+}
+pub(crate) use open_numbers;
+
+open_numbers! {
+    /// Why a call is diverted. Where a notice has one that is not known, the
+    /// caller is told as of `Unknown`; in an event, it is not well made.
     #[derive(Debug)]
     Reason {
         /// Not told.
@@ -39,6 +72,19 @@ numbers! {
         Cfb = 2,
         /// Forwarding on no reply; also a deflection.
         Cfnr = 3,
+    }
+}
+
+impl Reason {
+    /// In words.
+    pub const fn text(self) -> &'static str {
+        match self {
+            Reason::Unknown => "reason not told",
+            Reason::Cfu => "forwarding unconditional",
+            Reason::Cfb => "forwarding on busy",
+            Reason::Cfnr => "forwarding on no reply",
+            Reason::Other(_) => "a reason not known here",
+        }
     }
 }
 
@@ -57,12 +103,24 @@ numbers! {
 }
 
 numbers! {
-    /// A leg of a call; those of incoming calls are the first.
+    /// A leg of a call. An incoming call has the first alone. Those of an outgoing
+    /// call change their numbers: a leg ends by a [`Message::ReleaseComplete`] that
+    /// is sent on it, or by a [`Received::ReleaseComplete`] that came on it, and a
+    /// [`Message::Setup`] opens the leg that it bears, in the place of one that has
+    /// ended. Where the first has ended and none was opened in its place, the
+    /// second is the first from then on. Messages are sent in their order, each on
+    /// the leg as it was numbered before the event; [`Kind`] has what each event does.
+    ///
+    /// [`Message::ReleaseComplete`]: crate::Message::ReleaseComplete
+    /// [`Received::ReleaseComplete`]: crate::Received::ReleaseComplete
+    /// [`Message::Setup`]: crate::Message::Setup
+    /// [`Kind`]: crate::Kind
     #[derive(Debug)]
     Leg {
-        /// To the party that was called.
+        /// To [`Call::party`](crate::Call::party).
         One = 1,
-        /// To the party that a no-reply diversion tries meanwhile.
+        /// To [`Call::forwarded`](crate::Call::forwarded), which a no-reply
+        /// diversion tries meanwhile.
         Two = 2,
     }
 }

@@ -1,6 +1,6 @@
 //! Events.
 
-use crate::{raw, Choice, Leg, Number, Reason};
+use crate::{raw, words, Choice, Leg, Number, Reason};
 
 /// An event and its time.
 #[derive(Clone, Copy, Debug, PartialEq, Eq)]
@@ -12,11 +12,16 @@ pub struct Event {
 }
 
 /// What happened, with what the engine needs to know of it. A `call` is the
-/// place of its record, which the answer to its open named.
+/// place of its record, which the answer to its open named; a `leg` that on which it
+/// came, as it is numbered before the event. Each kind that sends says what, by the letters of
+/// [`Message::letter`](crate::Message::letter) and the leg, and what becomes of the legs
+/// of an outgoing call. `Invoked` is a call with a second leg
+/// ([`Call::forwarded`](crate::Call::forwarded)).
 #[derive(Clone, Copy, Debug, PartialEq, Eq)]
+#[non_exhaustive]
 #[allow(missing_docs)] // fields that are named by what they hold
 pub enum Kind {
-    /// The host has sent a SETUP to this party.
+    /// The host has sent a SETUP to this party: that connection is leg 1.
     OpenOutgoing { party: Number },
     /// A SETUP has come for this own number.
     OpenIncoming { own: Number },
@@ -28,11 +33,12 @@ pub enum Kind {
         diverting: Option<Number>,
         original: Option<Number>,
     },
-    /// An incoming call rings.
+    /// An incoming call rings: A1.
     Alerted { call: u8 },
-    /// The user answers; `allowed`: the own number may be shown to the caller.
+    /// The user answers; `allowed`: the own number may be shown to the caller. C1, and
+    /// for a call opened as diverted D1.
     Answered { call: u8, allowed: bool },
-    /// The user diverts an incoming call, for a reason other than unknown.
+    /// The user diverts an incoming call, for a reason other than unknown: I1.
     Divert {
         call: u8,
         reason: Reason,
@@ -48,10 +54,14 @@ pub enum Kind {
     /// Time has passed. An answer that names a call ended its request: send
     /// another one, until it names none.
     Clock,
-    /// The own side ends the call.
+    /// The own side ends the call: X1, and in Invoked X2 after it.
     End { call: u8 },
     /// A callRerouting invoke was received on an outgoing call, for a reason
     /// other than unknown; the counter is 1 to 15, and the identifier may be 0.
+    ///
+    /// Cfu or cfb: R1 X1 S1, and the connection of the SETUP is leg 1. Cfnr while the
+    /// call rings: R1 S2, and it is leg 2. In Invoked, of an answered call, and for
+    /// cfnr before the call rings: E on the leg on which it came, and the legs stay.
     Reroute {
         call: u8,
         leg: Leg,
@@ -62,20 +72,21 @@ pub enum Kind {
         destination: Number,
         original: Option<Number>,
     },
-    /// divertingLegInformation1 was received on an outgoing call.
+    /// divertingLegInformation1 was received on an outgoing call; sends nothing.
     Dli1 {
         call: u8,
         reason: Reason,
         option: Choice,
         nominated: Number,
     },
-    /// A message was received on an outgoing call.
+    /// A message was received on an outgoing call; without a second leg nothing is
+    /// sent.
     Received {
         call: u8,
         leg: Leg,
         message: Received,
     },
-    /// The far end ends an incoming call.
+    /// The far end ends an incoming call; sends nothing.
     FarEnd { call: u8 },
     /// All of a record but its time, for one that is none of the above: the
     /// engine refuses it with [`NotWellMade`](crate::Refusal::NotWellMade).
@@ -85,13 +96,15 @@ pub enum Kind {
 /// A message that was received.
 #[derive(Clone, Copy, Debug, PartialEq, Eq)]
 pub enum Received {
-    /// FACILITY.
+    /// FACILITY, on leg 1. Sends nothing; the legs stay.
     Facility(Dli3),
-    /// ALERTING.
+    /// ALERTING. In Invoked, on leg 2: X1, and leg 2 becomes leg 1.
     Alerting(Option<Dli3>),
-    /// CONNECT.
+    /// CONNECT. In Invoked, on leg 1: X2, and leg 2 is gone; on leg 2: X1, and leg 2
+    /// becomes leg 1.
     Connect(Option<Dli3>),
-    /// RELEASE COMPLETE.
+    /// RELEASE COMPLETE. In Invoked, on leg 1: leg 2 becomes leg 1, and no message
+    /// says so; on leg 2: F1, and leg 2 is gone. Else the record is free.
     ReleaseComplete,
 }
 
@@ -102,6 +115,13 @@ pub struct Dli3 {
     pub allowed: bool,
     /// The number of the diverted-to party.
     pub number: Option<Number>,
+}
+
+impl Kind {
+    /// In words.
+    pub fn text(&self) -> &'static str {
+        words::kind(self.raw(0).kind)
+    }
 }
 
 impl Event {

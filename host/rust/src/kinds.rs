@@ -113,7 +113,7 @@ impl Kind {
             },
             3 => Kind::OpenDiverted {
                 own: Number::new(e.first)?,
-                reason: Reason::of(e.reason)?,
+                reason: Reason::of(e.reason),
                 counter,
                 diverting: Number::new(e.second),
                 original: Number::new(e.third),
@@ -125,7 +125,7 @@ impl Kind {
             },
             6 => Kind::Divert {
                 call,
-                reason: Reason::of(e.reason)?,
+                reason: Reason::of(e.reason),
                 option: Choice::of(e.option)?,
                 destination: Number::new(e.second)?,
             },
@@ -137,7 +137,7 @@ impl Kind {
             12 => Kind::Reroute {
                 call,
                 leg: Leg::of(e.leg)?,
-                reason: Reason::of(e.reason)?,
+                reason: Reason::of(e.reason),
                 option: Choice::of(e.option)?,
                 counter,
                 identifier,
@@ -146,7 +146,7 @@ impl Kind {
             },
             13 => Kind::Dli1 {
                 call,
-                reason: Reason::of(e.reason)?,
+                reason: Reason::of(e.reason),
                 option: Choice::of(e.option)?,
                 nominated: Number::new(e.second)?,
             },

@@ -24,6 +24,10 @@
 //!
 //! A [`Plan`] of forwardings can be rehearsed without a call: which panel rings?
 //!
+//! The archive must have the layout of this crate: another one does not link
+//! (`undefined reference to whipsail_layout_..`). Codes, letters and reasons that a
+//! later archive adds are `Other`.
+//!
 //! Nothing is allocated, and neither `std` nor any other crate is needed.
 #![no_std]
 #![deny(unsafe_op_in_unsafe_fn)]
@@ -42,8 +46,11 @@ mod refusal;
 mod station;
 #[cfg(test)]
 mod tests;
+#[cfg(test)]
+mod unknown;
+mod words;
 
-pub use answer::{Answer, Message};
+pub use answer::{Answer, Message, PlainMessage};
 pub use call::{Call, Request};
 pub use code::{Basic, Choice, Direction, Leg, Reason};
 pub use event::{Dli3, Event, Kind, Received};
@@ -53,6 +60,14 @@ pub use station::Station;
 
 /// A party number, 1 to 65,535; an absent one is `None`.
 pub type Number = core::num::NonZeroU16;
+
+/// The format of what a host keeps over a restart, [`Station::to_bytes`] and
+/// [`Call::to_bytes`]: keep this number beside them. Where another stands there, do not
+/// lend them, but start again with free records and a fresh station. It moves whenever
+/// their layout changes, or what their bytes mean, or which of them are sound. What was
+/// kept before there was a number has the layout of 1, but may not be sound:
+/// [`Station::kept`] says when.
+pub const FORMAT: u32 = 1;
 
 /// The most records that a table may have.
 pub const MOST_RECORDS: usize = 64;

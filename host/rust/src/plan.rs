@@ -1,9 +1,9 @@
 //! Plans of forwardings: who will ring tonight?
 
-use crate::code::numbers;
+use crate::code::open_numbers;
 use crate::{raw, Number, Refusal};
 
-numbers! {
+open_numbers! {
     /// How a rehearsed call ends.
     #[derive(Debug)]
     Ending {
@@ -14,6 +14,18 @@ numbers! {
         /// The last panel would forward the call once more than the limit of
         /// [`Station::short`](crate::Station::short) allows, as in any circle.
         Limit = 3,
+    }
+}
+
+impl Ending {
+    /// In words.
+    pub const fn text(self) -> &'static str {
+        match self {
+            Ending::Rings => "rings",
+            Ending::Busy => "busy",
+            Ending::Limit => "limit",
+            Ending::Other(_) => "an ending not known here",
+        }
     }
 }
 
@@ -109,6 +121,21 @@ pub struct Rehearsal {
     pub counter: u8,
 }
 
+impl Rehearsal {
+    /// By the definitions a done one names a panel; one that does not would be no
+    /// answer, and is none here.
+    pub(crate) fn read(told: &raw::Rehearsed) -> Result<Rehearsal, Refusal> {
+        match (told.code, Number::new(told.last)) {
+            (0, Some(last)) => Ok(Rehearsal {
+                ending: Ending::of(told.ending),
+                last,
+                counter: told.counter,
+            }),
+            (code, _) => Err(Refusal::of(code)),
+        }
+    }
+}
+
 impl<'a> Plan<'a> {
     /// A plan of panels, each by its [`Panel::numbers`].
     pub fn new(panels: &'a [[u16; 4]]) -> Plan<'a> {
@@ -129,16 +156,6 @@ impl<'a> Plan<'a> {
     /// outside the plan, the latter whether or not it is reached, and, of plain
     /// numbers, a mark above 1 or a count that is not four for each panel.
     pub fn rehearse(&self, start: u16) -> Result<Rehearsal, Refusal> {
-        let told = raw::rehearse(self.numbers, start);
-        // By the definitions the library gives 0 or 3, and with 0 an ending and a
-        // panel; anything else would be no answer, so it is none here.
-        match (told.code, Ending::of(told.ending), Number::new(told.last)) {
-            (0, Some(ending), Some(last)) => Ok(Rehearsal {
-                ending,
-                last,
-                counter: told.counter,
-            }),
-            _ => Err(Refusal::NotWellMade),
-        }
+        Rehearsal::read(&raw::rehearse(self.numbers, start))
     }
 }

@@ -21,8 +21,10 @@ pub struct Event {
     pub time: u64,
 }
 
-#[derive(Clone, Copy)]
+/// A message to send, as plain numbers; an argument that it does not have is 0.
+#[derive(Clone, Copy, Debug, Default, PartialEq, Eq)]
 #[repr(C)]
+#[allow(missing_docs)] // fields that are named by what they hold
 pub struct Message {
     pub letter: u8,
     pub leg: u8,
@@ -85,6 +87,10 @@ mod library {
     use super::{Call, Event, Input, Made, Read, Rehearsed, Station, Told};
 
     extern "C" {
+        // The layout of the structs here, by its number: an archive of another one
+        // does not link. It hands back the archive's format number.
+        #[link_name = "whipsail_layout_1"]
+        pub fn layout() -> u32;
         pub fn whipsail_fresh(limit: u8) -> Made;
         pub fn whipsail_fresh_short() -> Station;
         pub fn whipsail_lent_step(table: *mut Call, len: usize, input: Input) -> Told;
@@ -94,17 +100,34 @@ mod library {
     }
 }
 
+/// Refers to the layout's symbol, and calls nothing. Each function below does so:
+/// what a linker keeps of them, it keeps the reference of.
+#[inline(always)]
+fn tied() {
+    core::hint::black_box(library::layout as unsafe extern "C" fn() -> u32);
+}
+
+/// The archive's format number.
+#[cfg(test)]
+pub fn format() -> u32 {
+    // SAFETY: takes nothing.
+    unsafe { library::layout() }
+}
+
 pub fn fresh(limit: u8) -> Made {
+    tied();
     // SAFETY: takes any number.
     unsafe { library::whipsail_fresh(limit) }
 }
 
 pub fn fresh_short() -> Station {
+    tied();
     // SAFETY: takes nothing.
     unsafe { library::whipsail_fresh_short() }
 }
 
 pub fn lent_step(table: &mut [Call], station: Station, event: Event) -> Told {
+    tied();
     let input = Input { station, event };
     // SAFETY: the pointer is a slice's, so aligned, not null, and good for the
     // slice's length, also where that is 0; it is not kept. Any records, length,
@@ -113,16 +136,19 @@ pub fn lent_step(table: &mut [Call], station: Station, event: Event) -> Told {
 }
 
 pub fn event_of(bytes: &[u8; 24]) -> Event {
+    tied();
     // SAFETY: 24 bytes are read at the pointer, which is not kept.
     unsafe { library::whipsail_event_at(bytes.as_ptr(), bytes.len(), 0) }.event
 }
 
 pub fn well_made(event: Event) -> bool {
+    tied();
     // SAFETY: takes any event.
     unsafe { library::whipsail_well_made(event) }
 }
 
 pub fn rehearse(plan: &[u16], start: u16) -> Rehearsed {
+    tied();
     // SAFETY: the pointer is a slice's, so aligned, not null, and good for the
     // slice's length, also where that is 0; it is only read, and not kept. Any
     // numbers, length and start are taken.

@@ -1,11 +1,12 @@
 //! Why an event, a limit or a plan is refused.
 
-use crate::code::numbers;
+use crate::code::open_numbers;
 use core::{error, fmt};
 
-numbers! {
+open_numbers! {
     /// Why an event is refused, in the order in which it is tested. Its text
-    /// says what to do; table and station are as they were.
+    /// says what to do; table and station are as they were, also where it is one
+    /// that is not known here.
     Refusal {
         /// The table is empty, over 64 records or not sound, or the station's
         /// limit is not 1 to 15 or its next identifier 0
@@ -30,7 +31,8 @@ numbers! {
 }
 
 impl Refusal {
-    const fn text(self) -> &'static str {
+    /// Why, and what to do.
+    pub const fn text(self) -> &'static str {
         match self {
             Refusal::NotSound => {
                 "table or station is not sound: lend 1 to 64 records as the engine left them, or start again with free ones and a fresh station"
@@ -55,6 +57,9 @@ impl Refusal {
             }
             Refusal::TableFull => {
                 "no record is free: turn the call down, or lend a longer table (up to 64 records)"
+            }
+            Refusal::Other(_) => {
+                "a refusal of a later archive, not known here: nothing has changed; drop the event, and report the number"
             }
         }
     }

@@ -24,9 +24,9 @@ impl Station {
     /// other limit is [`Refusal::NotWellMade`].
     pub fn fresh(limit: u8) -> Result<Station, Refusal> {
         let made = raw::fresh(limit);
-        match Refusal::of(made.code) {
-            None => Ok(made.station),
-            Some(refusal) => Err(refusal),
+        match made.code {
+            0 => Ok(made.station),
+            code => Err(Refusal::of(code)),
         }
     }
 
@@ -36,11 +36,12 @@ impl Station {
         raw::fresh_short()
     }
 
-    /// A station that was kept elsewhere, as over a restart. A limit that is not
-    /// 1 to 15, or next identifier 0, is refused with the first event.
+    /// A station that was kept elsewhere, as over a restart, with
+    /// [`FORMAT`](crate::FORMAT) beside it. A limit that is not 1 to 15, or next
+    /// identifier 0, is refused with the first event.
     ///
-    /// Earlier archives gave identifier 0 after 65,535: what they left may have
-    /// next identifier 0, or an open request with it, and every event is then
+    /// Earlier archives gave identifier 0 after 65,535: what they left, without a
+    /// format number, may have next identifier 0, or an open request with it, and every event is then
     /// [`Refusal::NotSound`]. Start again with free records and a fresh station;
     /// or, where the next identifier is 0 and no request is open with 0, hand in 1:
     /// `Station::kept(s.last(), 1, s.limit())`; or, before the archive is changed, let
@@ -99,10 +100,7 @@ impl Station {
     pub fn step(&mut self, table: &mut [Call], event: &Event) -> Result<Answer, Refusal> {
         let told = raw::lent_step(table, *self, event.raw());
         *self = told.station;
-        match Refusal::of(told.answer.code) {
-            None => Ok(Answer::read(&told.answer)),
-            Some(refusal) => Err(refusal),
-        }
+        Answer::read(&told.answer)
     }
 }
 

@@ -114,7 +114,7 @@ fn every_refusal_and_its_text() {
     let clock = Event::at(9, Kind::Clock);
     assert_eq!(station.step(&mut [], &clock), Err(Refusal::NotSound));
     for number in 1..=8 {
-        let refusal = Refusal::of(number).expect("eight refusals");
+        let refusal = Refusal::of(number);
         let said: &dyn core::error::Error = &refusal;
         assert!(said.to_string().starts_with(&std::format!("{number}: ")));
         assert_eq!(std::format!("{refusal:?}"), said.to_string());
@@ -287,9 +287,5 @@ fn what_is_no_plan_is_refused() {
     }
     for start in [0, 3, 65535] {
         assert_eq!(Plan::new(&[[0; 4]; 2]).rehearse(start), refused);
-    }
-    for ending in 0..=255 {
-        let known = Ending::of(ending).map(Ending::number);
-        assert_eq!(known, (1..=3).contains(&ending).then_some(ending));
     }
 }

@@ -8,7 +8,7 @@ use Rattle.legs.proofs.on_first_leg.Tie as tie
 returns : tie.Need-returns
 returns c = let e = c .before .before .before .before .before .args .e in
     λ z. record {
-      call = (c .after-message .ensures ∙ ap (afterMessage e) (c .before .with-dli3 .ensures ∙ ap (λ (x : Call). withDli3 x e) (c .before .before .settled-leg .ensures))) z;
+      call = (c .after-message .ensures ∙ ap (afterMessage e) (c .before .with-dli3 .ensures ∙ ap (λ (x : Call). withDli3 x e) (c .before .before .after-connect .ensures))) z;
       sent = c .before .before .before .before .first-leg-sent .ensures z;
       notice = 255;
       number = c .before .before .before .number-for .ensures z;

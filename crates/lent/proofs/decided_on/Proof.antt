@@ -33,8 +33,8 @@ returns-3 c =
     (by-turn (a .input) (a .v) (a .n) (a .p) (a .c) (k .in-bounds .result) (k .in-bounds .ensures) (r .before .place-seen .result) (r .before .place-seen .ensures)
     NoneDue (sym (r .turned .ensures) ∙ g .1) (r .before .before .if1 .left))
 
-settled-requires : tie.Need-settled-requires
-settled-requires c κs =
+changed-requires : tie.Need-changed-requires
+changed-requires c κs =
     let g = c .before .before .t2 .given in
     let r = c .before .before .before .before in
     let k = r .before .before .before in
@@ -49,7 +49,7 @@ returns-4 c =
     let r = c .before .before .before .before .before in
     let k = r .before .before .before in
     let a = k .before .before .before .args in
-    c .settled .ensures ∙ rw (c .before .station-on2 .ensures)
+    c .changed .ensures ∙ rw (c .before .station-on2 .ensures)
     (by-turn (a .input) (a .v) (a .n) (a .p) (a .c) (k .in-bounds .result) (k .in-bounds .ensures) (r .before .place-seen .result) (r .before .place-seen .ensures)
     (Done (g .0 .0)) (sym (r .turned .ensures) ∙ g .1) (r .before .before .if1 .left))
 
@@ -57,4 +57,4 @@ pub decided-on-spec : {M : Type 1} → statement M
 decided-on-spec =
     tie.close
     (tie.spec (λ c κs. tt) (λ c κs. tt) returns (λ c κs. tt) (λ c κs. tt) (λ c. search needs) (λ c κs. tt) returns-2 (λ c. search needs) (λ c κs. tt)
-    (λ c κs. tt) returns-3 (λ c. search needs) (λ c κs. tt) settled-requires returns-4)
+    (λ c κs. tt) returns-3 (λ c. search needs) (λ c κs. tt) changed-requires returns-4)

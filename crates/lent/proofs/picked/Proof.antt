@@ -41,7 +41,7 @@ use denote.Signature.{plain}
 use Rattle.call.specs.declared.Call.{Call}
 use Rattle.slice.proofs.Row.{R, shared}
 use Rattle.survey.specs.declared.Noted.{Noted}
-use Rattle.survey.specs.Column.{heldIn}
+use Rattle.notes.specs.Notes.{columnOf}
 use Rattle.survey.proofs.Cells.{AU, cells, atyped-at}
 use Rattle.survey.proofs.Noted as N
 use Rattle.survey.proofs.Noted.Laws as N′
@@ -144,7 +144,7 @@ module _ {M : Type 1} (𝓤 : URA M) (H : Heap 𝓤) (A : Atoms 𝓤) (W : Given
         move ! (2 ∷ 0 ∷ []) $ use2 W (raw (Column 𝓤 H A mem run .pre (to-column 𝓤 H A mem run κ q b o γ ys n))) (goes-column 𝓤 H A mem run W κ q b o γ ys n gn ok) $
         calls-at ! fm (Column 𝓤 H A mem run) known-column (to-column 𝓤 H A mem run κ q b o γ ys n) (and-then ! (load ! (from ! (stop !)) (look ! 12 refl)) (and-then ! (load ! (from ! (stop !)) (look ! 10 refl)) (no-more !))) (λ w₂.
         use1 W (later (some (λ (t : List ℕ). ((‵ (flft κ q) ⊛ ‵ ftrue) ⊛ ‵ (AU .own t (w₂ ∷ []))) ⊛ raw (ensured 𝓤 H A column.ended (column.clauses 𝓤 H A mem run) (κ, tt) (x, (n, tt)) tt t)))) (id⊢ 𝓤 _) $ await ! tt $ pick ! (λ h.
-        split ! $ move ! (1 ∷ []) $ use1 W (raw (fact 𝓤 (h ≡ heldIn n ys))) (column-of 𝓤 H A mem run κ x n h) $ heard ! (h ≡ heldIn n ys) (λ e₂.
+        split ! $ move ! (1 ∷ []) $ use1 W (raw (fact 𝓤 (h ≡ columnOf n ys))) (column-of 𝓤 H A mem run κ x n h) $ heard ! (h ≡ columnOf n ys) (λ e₂.
         split ! $ move ! (1 ∷ []) $ peeks ! AU (Is AU) (shows 𝓤 H A AU) h (w₂ ∷ []) (λ gh.
         land ! (from ! (stop !)) (init ! 5 refl (atyped-at 𝓤 H A W h w₂ gh)) $
         move ! (1 ∷ []) $ split ! $ move ! (2 ∷ 3 ∷ 0 ∷ []) $

@@ -49,7 +49,7 @@ use Rattle.call.proofs.Call.Laws as S′
 use Rattle.call.proofs.free_call as free
 use Rattle.call.proofs.free_call.Symbol as free-def
 use Rattle.call.proofs.free_call.Met as free-thm
-use Rattle.slice.specs.Table.{recordAt}
+use Rattle.station.specs.Table.{at as record-of}
 use Rattle.slice.proofs.Row.{R, cell, bytes, shared, vals, tells, makes, typed, typed-at, copies}
 use Rattle.slice.proofs.Records.{record-in, record-past}
 use Rattle.slice.proofs.record_at.Key.{name as #lent·record-at}
@@ -107,7 +107,7 @@ module _ {M : Type 1} (𝓤 : URA M) (H : Heap 𝓤) (A : Atoms 𝓤) (W : Given
   abbrev Parts : Fml
   Parts = fshr-bor κ (λ t. arr-parts (shares R) (length ys) .part t ys b o)
 
-  exits : (c : Call) → Is R c (vals c) → c ≡ recordAt (take n ys) i → ent 𝓤 (⋆ 𝓤 H A (‵ (flft κ q) ∷ ‵ Parts ∷ ‵ (fres γ (codedHoleys R .code (heres R ys))) ∷ [])) (Post (S′.lowered c))
+  exits : (c : Call) → Is R c (vals c) → c ≡ record-of (take n ys) i → ent 𝓤 (⋆ 𝓤 H A (‵ (flft κ q) ∷ ‵ Parts ∷ ‵ (fres γ (codedHoleys R .code (heres R ys))) ∷ [])) (Post (S′.lowered c))
   exits c g e =
       qed W (‵ (flft κ q) ∷ ‵ Parts ∷ ‵ (fres γ (codedHoleys R .code (heres R ys))) ∷ []) ∵
       suffices ! _ (ends-at 𝓤 H A at′.ended stayed (at′.clauses 𝓤 H A mem run) W bound (S′.lowered c) c (tt, (tt, (tt, tt))) (tt, (tt, (tt, tt)))) $ says ! e $

@@ -48,14 +48,14 @@ use denote.Triple.Table.{entered, cited}
 use denote.Triple.Walked.{says, needs, Stays, stay-none-slice, stay-none, walkOf, Walks, ends-at, walked, goes-none-slice, goes-none, walk-meets}
 use Rattle.call.specs.declared.Call.{Call}
 use Rattle.call.specs.Record.{freeCall}
-use Rattle.notes.specs.Notes.{heldBy}
+use Rattle.notes.specs.Notes.{heldBy, columnOf}
+use Rattle.notes.proofs.Kept.{column-next}
 use Rattle.notes.proofs.held_by as held
 use Rattle.notes.proofs.held_by.Symbol as held-def
 use Rattle.notes.proofs.held_by.Met as held-thm
 use Rattle.slice.proofs.Row.{R, cell, bytes, shared, vals, tells, makes, typed, copies}
 use Rattle.slice.proofs.Upto.{Upto, Nearer, Nearer-wf}
-use Rattle.survey.specs.Column.{heldIn}
-use Rattle.survey.proofs.Cells.{AU, cells, zeros, avals, mach, is-zeros, amakes, atyped, array-in, array-out, held-next, held-length}
+use Rattle.survey.proofs.Cells.{AU, cells, zeros, avals, mach, is-zeros, amakes, atyped, array-in, array-out, held-length}
 use Rattle.survey.proofs.column.Key.{name as #survey·column}
 use Rattle.survey.proofs.column as column′
 use Rattle.survey.proofs.column.Statement as stated
@@ -109,7 +109,7 @@ module _ {M : Type 1} (𝓤 : URA M) (H : Heap 𝓤) (A : Atoms 𝓤) (W : Given
 
   -- the local array after i turns
   abbrev acc : ℕ → List ℕ
-  acc i = heldIn i ys
+  acc i = columnOf i ys
 
   acc-length : (i : ℕ) → i ≤ n → length (acc i) ≡ 64
   acc-length i l = held-length i ys (omega (arith, l, short .0)) (omega (arith, l, short .1))
@@ -201,7 +201,7 @@ module _ {M : Type 1} (𝓤 : URA M) (H : Heap 𝓤) (A : Atoms 𝓤) (W : Given
         next-fits = omega (arith, less, short .1)
 
         next : (t : ℕ) → t ≡ heldBy (item (i .0)) → set (acc (i .0)) (i .0) t ≡ acc (i .0 + 1)
-        next t q = ap (set (acc (i .0)) (i .0)) q ∙ held-next (i .0) ys in-table (omega (arith, less, short .1))
+        next t q = ap (set (acc (i .0)) (i .0)) q ∙ column-next ys (i .0) in-table (omega (arith, less, short .1))
     turn i false e =
         assigns ! (bin ! (load ! (from ! (stop !)) (look ! 2 refl)) (load ! (from ! (stop !)) (look ! 12 refl)) tt) (from ! (stop !)) (init ! 5 refl (tt, tt)) $
         rewrite ! 5 (λ (t : Bool). ‵ (fat fullShare tyBool l₇ 0 (vbool t))) e refl $ leaves-loop ! (load ! (from ! (stop !)) (look ! 5 refl)) $ exec ! C Λ En mir.t-4 (atRet En Post) $

@@ -1,7 +1,7 @@
 -- The code's order of the tests is the page's: `number-later`. Assumes nothing.
 use mathlib.Core.Path.{_≡_, _∙_}
 use borrow.Author.Needs.{needs}
-use Rattle.ground.proofs.Ways.{ways}
+use Rattle.ground.proofs.Ways.{ways, asked}
 use Rattle.turn.proofs.Numbered.{later, number-later}
 use Rattle.turn.proofs.number.Statement.{statement}
 use Rattle.turn.proofs.number.Tie as tie
@@ -15,31 +15,31 @@ returns c =
 returns-2 : tie.Need-returns-2
 returns-2 c =
     let a = c .before .before .before .before .before .before .before .args in
-    let here : c .no-call .result ≡ later (a .s) (a .e) (a .seen) = rw (← c .before .before .wrong-call .ensures, ← c .before .before .before .before .well-made .ensures, c .before .before .before .if1 .left, c .before .if2 .taken, ← c .before .before .before .before .before .before .before .pre .0) (c .no-call .ensures) in
+    let here : c .no-record .result ≡ later (a .s) (a .e) (a .seen) = rw (← c .before .before .wrong-call .ensures, ← c .before .before .before .before .well-made .ensures, c .before .before .before .if1 .left, c .before .if2 .taken, ← c .before .before .before .before .before .before .before .pre .0) (c .no-record .ensures) in
     here ∙ number-later (a .s) (a .e) (a .seen) (c .before .before .before .before .before .before .before .pre .1)
 
 returns-3 : tie.Need-returns-3
 returns-3 c =
     let a = c .before .before .before .before .before .before .before .before .args in
-    let here : 5 ≡ later (a .s) (a .e) (a .seen) = rw (← c .before .state-forbids .ensures, ← c .before .before .before .wrong-call .ensures, ← c .before .before .before .before .before .well-made .ensures, c .before .before .before .before .if1 .left, c .before .before .if2 .left, c .if3 .taken) in
+    let here : 5 ≡ later (a .s) (a .e) (a .seen) = rw (← c .before .before .before .wrong-call .ensures, ← c .before .before .before .before .before .well-made .ensures, c .before .before .before .before .if1 .left, c .before .before .if2 .left) (search asked depth 12) in
     here ∙ number-later (a .s) (a .e) (a .seen) (c .before .before .before .before .before .before .before .before .pre .1)
 
 returns-4 : tie.Need-returns-4
 returns-4 c =
     let a = c .before .before .before .before .before .before .before .before .before .before .args in
-    let here : 6 ≡ later (a .s) (a .e) (a .seen) = rw (← c .before .other-identifier .ensures, ← c .before .before .before .state-forbids .ensures, ← c .before .before .before .before .before .wrong-call .ensures, ← c .before .before .before .before .before .before .before .well-made .ensures, c .before .before .before .before .before .before .if1 .left, c .before .before .before .before .if2 .left, c .before .before .if3 .left, c .if4 .taken) in
+    let here : 6 ≡ later (a .s) (a .e) (a .seen) = rw (← c .before .before .before .before .before .wrong-call .ensures, ← c .before .before .before .before .before .before .before .well-made .ensures, c .before .before .before .before .before .before .if1 .left, c .before .before .before .before .if2 .left) (search asked depth 12) in
     here ∙ number-later (a .s) (a .e) (a .seen) (c .before .before .before .before .before .before .before .before .before .before .pre .1)
 
 returns-5 : tie.Need-returns-5
 returns-5 c =
     let a = c .before .before .before .before .before .before .before .before .before .before .before .before .args in
-    let here : 7 ≡ later (a .s) (a .e) (a .seen) = rw (← c .before .over-limit .ensures, ← c .before .before .before .other-identifier .ensures, ← c .before .before .before .before .before .state-forbids .ensures, ← c .before .before .before .before .before .before .before .wrong-call .ensures, ← c .before .before .before .before .before .before .before .before .before .well-made .ensures, c .before .before .before .before .before .before .before .before .if1 .left, c .before .before .before .before .before .before .if2 .left, c .before .before .before .before .if3 .left, c .before .before .if4 .left, c .if5 .taken) in
+    let here : 7 ≡ later (a .s) (a .e) (a .seen) = rw (← c .before .before .before .before .before .before .before .wrong-call .ensures, ← c .before .before .before .before .before .before .before .before .before .well-made .ensures, c .before .before .before .before .before .before .before .before .if1 .left, c .before .before .before .before .before .before .if2 .left) (search asked depth 12) in
     here ∙ number-later (a .s) (a .e) (a .seen) (c .before .before .before .before .before .before .before .before .before .before .before .before .pre .1)
 
 returns-6 : tie.Need-returns-6
 returns-6 c =
     let a = c .before .before .before .before .before .before .before .before .before .before .before .before .args in
-    let here : 0 ≡ later (a .s) (a .e) (a .seen) = rw (← c .before .over-limit .ensures, ← c .before .before .before .other-identifier .ensures, ← c .before .before .before .before .before .state-forbids .ensures, ← c .before .before .before .before .before .before .before .wrong-call .ensures, ← c .before .before .before .before .before .before .before .before .before .well-made .ensures, c .before .before .before .before .before .before .before .before .if1 .left, c .before .before .before .before .before .before .if2 .left, c .before .before .before .before .if3 .left, c .before .before .if4 .left, c .if5 .left) in
+    let here : 0 ≡ later (a .s) (a .e) (a .seen) = rw (← c .before .before .before .before .before .before .before .wrong-call .ensures, ← c .before .before .before .before .before .before .before .before .before .well-made .ensures, c .before .before .before .before .before .before .before .before .if1 .left, c .before .before .before .before .before .before .if2 .left) (search asked depth 12) in
     here ∙ number-later (a .s) (a .e) (a .seen) (c .before .before .before .before .before .before .before .before .before .before .before .before .pre .1)
 
 pub number-spec : {M : Type 1} → statement M

@@ -1,5 +1,5 @@
 -- `whipsail::whipsail_lent_step` meets its contract: a walk of its MIR, by hand, with two calls. The slice is lent to `looked` as a `&` and to `settle` as a `&mut`, each time for a
--- lifetime that is made for the call, and comes back (`Shared`, `Again` of `lent/proofs`). All that the proof knows of the callees is that each meets its contract.
+-- lifetime that is made for the call, and comes back (`Shared`, `Again` of `slice/proofs`). All that the proof knows of the callees is that each meets its contract.
 -- Assumes nothing.
 use mathlib.Core.Path.{_≡_, refl, sym, ap, subst}
 use Prim.Native.Nat.{ℕ}
@@ -43,18 +43,18 @@ use Rattle.call.specs.declared.Call.{Call}
 use Rattle.slice.specs.Table.{settledAt}
 use Rattle.lent.specs.declared.Input.{Input}
 use Rattle.lent.specs.declared.Decision.{Decision}
-use Rattle.whipsail.specs.Lent.{toldOf, tableAfter}
+use Rattle.whipsail.specs.Lent.{replyOf, tableAfter}
 use Rattle.lent.proofs.Input as I
 use Rattle.lent.proofs.Input.Laws as I′
 use Rattle.lent.proofs.Decision as D
 use Rattle.lent.proofs.Decision.Laws as D′
-use Rattle.lent.proofs.Told as N
-use Rattle.lent.proofs.Told.Laws as N′
+use Rattle.lent.proofs.Reply as N
+use Rattle.lent.proofs.Reply.Laws as N′
 use Rattle.slice.proofs.Row.{R}
 use Rattle.slice.proofs.Again.{LentAgain, lends-again, comes-back}
 use Rattle.slice.proofs.Shared.{LentShared, lends-shared, shared-back}
 use Rattle.whipsail.proofs.Said.{on-table, within, said}
-use Rattle.whipsail.proofs.Callees.{is-told, is-place, is-count, is-call, slice-at, Look, Settle, look-of, to-look, to-settle, goes-look, goes-settle}
+use Rattle.whipsail.proofs.Callees.{is-reply, is-place, is-count, is-call, slice-at, Look, Settle, look-of, to-look, to-settle, goes-look, goes-settle}
 use Rattle.lent.proofs.looked as looked
 use Rattle.lent.proofs.looked.Symbol as looked-def
 use Rattle.lent.proofs.looked.Met as looked-thm
@@ -92,13 +92,13 @@ module _ {M : Type 1} (𝓤 : URA M) (H : Heap 𝓤) (A : Atoms 𝓤) (W : Given
   abbrev Post : Val → SProp 𝓤
   Post = walkOf 𝓤 H A step′.ended stayed (step′.clauses 𝓤 H A mem run) .post bound
 
-  exits : (t : Decision) (zs : List Call) → Is N.the-row (t .told) (N′.lowered (t .told) ∷ []) → length zs ≡ length ys → (t .told ≡ toldOf ys input) × (zs ≡ tableAfter ys input)
-      → ent 𝓤 (⋆ 𝓤 H A (‵ (MutSlice (named 0) κ R .own (x γ zs) (s ∷ [])) ∷ ‵ (flft κ q) ∷ [])) (Post (N′.lowered (t .told)))
+  exits : (t : Decision) (zs : List Call) → Is N.the-row (t .reply) (N′.lowered (t .reply) ∷ []) → length zs ≡ length ys → (t .reply ≡ replyOf ys input) × (zs ≡ tableAfter ys input)
+      → ent 𝓤 (⋆ 𝓤 H A (‵ (MutSlice (named 0) κ R .own (x γ zs) (s ∷ [])) ∷ ‵ (flft κ q) ∷ [])) (Post (N′.lowered (t .reply)))
   exits t zs g l e =
       qed W (‵ (MutSlice (named 0) κ R .own (x γ zs) (s ∷ [])) ∷ ‵ (flft κ q) ∷ []) ∵
-      suffices ! _ (ends-at 𝓤 H A step′.ended stayed (step′.clauses 𝓤 H A mem run) W bound (N′.lowered (t .told)) (t .told) (zs, (tt, tt)) (l, (tt, tt))) $ says ! e $
+      suffices ! _ (ends-at 𝓤 H A step′.ended stayed (step′.clauses 𝓤 H A mem run) W bound (N′.lowered (t .reply)) (t .reply) (zs, (tt, tt)) (l, (tt, tt))) $ says ! e $
       nothing ! $ move ! (2 ∷ 0 ∷ []) $ join ! $ frame ! $ nothing ! $ owned ! I.the-row (Is I.the-row) (LL.makes I.the-type I′.the-plain 𝓤 H A) input (I′.lowered input ∷ []) gi $ fjoin ! $ move ! (1 ∷ 0 ∷ []) $ fjoin ! $
-      owned ! N.the-row (Is N.the-row) (LL.makes N.the-type N′.the-plain 𝓤 H A) (t .told) (N′.lowered (t .told) ∷ []) g $ move ! (1 ∷ 0 ∷ []) $ done !
+      owned ! N.the-row (Is N.the-row) (LL.makes N.the-type N′.the-plain 𝓤 H A) (t .reply) (N′.lowered (t .reply) ∷ []) g $ move ! (1 ∷ 0 ∷ []) $ done !
 
   module _ (C : Calls 𝓤 H) (Λ : Loops 𝓤 H) (fm : FmC 𝓤 H (W .laws) C) (known-look : Triple 𝓤 (C looked-def.name) (Look 𝓤 H A mem run)) (known-settle : Triple 𝓤 (C settle-def.name) (Settle 𝓤 H A mem run)) where
     walk : ent 𝓤 (onEntry 𝓤 H A step′.signature (κ, tt) (q, tt) a at) (WpFn 𝓤 H C Λ code.function (s ∷ I′.lowered input ∷ []) Post)
@@ -137,10 +137,10 @@ module _ {M : Type 1} (𝓤 : URA M) (H : Heap 𝓤) (A : Atoms 𝓤) (W : Given
         move ! (1 ∷ []) $ split ! $ lft-end ! tt $ move ! (0 ∷ 5 ∷ 3 ∷ []) $
         use3 W (later (‵ (MutSlice (named 0) κ R .own (x γ (zs .0)) (s ∷ [])) ⊛ ‵ (flft κ q))) (comes-back R κ (ν′ ∷ []) q γ b o 𝓤 H A W (named 0) (named 0) ys δ′ (zs .0) room l) $ await ! tt $ split ! $
         -- [what table owns; the token; true; ()'s; true; _8; …]
-        assigns ! (of-opd ! (load ! (from ! (fld ! refl (stop !))) (look-in ! 15 (sub ! 0 refl (whole !))))) (from ! (stop !)) (init ! 21 refl (LL.lawful N.the-type N′.the-laws 𝓤 H A W .typed (t .told) _ (is-told t u it) .0)) $
+        assigns ! (of-opd ! (load ! (from ! (fld ! refl (stop !))) (look-in ! 15 (sub ! 0 refl (whole !))))) (from ! (stop !)) (init ! 21 refl (LL.lawful N.the-type N′.the-laws 𝓤 H A W .typed (t .reply) _ (is-reply t u it) .0)) $
         returns ! (look ! 21 refl) $ forget ! 5 refl $ forget ! 7 refl $ forget ! 9 refl $ forget ! 11 refl $ forget ! 13 refl $ forget ! 15 refl $ forget ! 17 refl $ forget ! 19 refl $ forget ! 21 refl $
         move ! (21 ∷ 22 ∷ []) $ free1 ! $ move ! (19 ∷ 20 ∷ []) $ free1 ! $ move ! (17 ∷ 18 ∷ []) $ free1 ! $ move ! (15 ∷ 16 ∷ []) $ free1 ! $ move ! (13 ∷ 14 ∷ []) $ free1 ! $ move ! (11 ∷ 12 ∷ []) $ free1 ! $ move ! (9 ∷ 10 ∷ []) $ free1 ! $ move ! (7 ∷ 8 ∷ []) $ free1 ! $ move ! (5 ∷ 6 ∷ []) $ free1 ! $ free0 ! $
-        keep ! (0 ∷ 1 ∷ []) $ by ! (exits t (zs .0) (is-told t u it) l (said ys input t e₃ (zs .0) e₄)))))))))))))))))))))))))
+        keep ! (0 ∷ 1 ∷ []) $ by ! (exits t (zs .0) (is-reply t u it) l (said ys input t e₃ (zs .0) e₄)))))))))))))))))))))))))
 
 module _ {M : Type 1} (𝓤 : URA M) (H : Heap 𝓤) (A : Atoms 𝓤) (W : Given 𝓤 H A) (mem : Memory → SProp 𝓤) (run : Routine → Fun 𝓤) (𝓣 : Tables 𝓤 H)
     (known-look : Triple 𝓤 (𝓣 .C looked-def.name) (Look 𝓤 H A mem run)) (known-settle : Triple 𝓤 (𝓣 .C settle-def.name) (Settle 𝓤 H A mem run)) where

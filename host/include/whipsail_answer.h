@@ -1,0 +1,111 @@
+/* What to send and what to show: answers. A part of whipsail.h, which includes it. */
+#ifndef WHIPSAIL_ANSWER_H
+#define WHIPSAIL_ANSWER_H
+
+#include <stdint.h>
+
+/* How an answer holds "none": 0 is a call, a reason and an identifier (that of
+ * an invoke that is received, echoed; our own are 1 to 65535), but neither a
+ * party number nor a counter that is sent, nor a letter. */
+#define WHIPSAIL_NO_CALL 255
+#define WHIPSAIL_NO_NOTICE 255
+#define WHIPSAIL_NO_IDENTIFIER 65536
+#define WHIPSAIL_NO_NUMBER 0
+#define WHIPSAIL_NO_COUNTER 0
+#define WHIPSAIL_NO_MESSAGE 0
+
+/* Why an event is refused, and what to do. More codes may come, of later archives
+ * of the same layout: every code but WHIPSAIL_DONE is a refusal and has changed
+ * nothing, so drop the event of one that you do not know, and report its number. */
+enum {
+    WHIPSAIL_DONE = 0,
+    WHIPSAIL_NOT_SOUND = 1,        /* the table is empty, too long or not sound, the limit not 1 to 15, or the next
+                                      identifier 0: lend the records as they were left, or start again with zeroed ones
+                                      and a fresh station (whipsail_station says more of one that was kept) */
+    WHIPSAIL_TIME_BEFORE = 2,      /* its time is before that of the last done event: keep to the order of times */
+    WHIPSAIL_NOT_WELL_MADE = 3,    /* its kind or a field (or a limit, a plan or its start): correct what makes it */
+    WHIPSAIL_NO_SUCH_CALL = 4,     /* past the table's end, free, or of the other direction: look up the record */
+    WHIPSAIL_NOT_IN_STATE = 5,     /* the call's state does not take it, as a result with no request open: drop it */
+    WHIPSAIL_OTHER_IDENTIFIER = 6, /* a result or error, and the open request has another identifier: drop it */
+    WHIPSAIL_OVER_LIMIT = 7,       /* one diversion more than the limit: let the call ring, or end it */
+    WHIPSAIL_TABLE_FULL = 8        /* an open, and no record is free: turn the call down */
+};
+
+/* Which connection is which leg. An incoming call has leg 1 alone. Of an outgoing
+ * call leg 1 is the connection to `party` of its record; leg 2, that to
+ * `waiting.number`, is there while `cdr` is Invoked. Legs change their numbers, in
+ * one case (RELEASE on leg 1 in Invoked) without a message. Send the messages in
+ * their order, each on the leg as it was numbered before the event. A leg ends by X
+ * sent on it or RELEASE received on it, and S opens the leg that it bears; where
+ * leg 1 has ended and none was opened in its place, leg 2 is leg 1 from then on:
+ *
+ *   event             leg  where                   sends     legs then
+ *   REROUTE CFU, CFB  1    Proceeding, Delivered   R1 X1 S1  SETUP is 1
+ *   REROUTE CFNR      1    Delivered               R1 S2     SETUP is 2
+ *   REROUTE CFNR      1    Proceeding              E1        same
+ *   REROUTE           1    Active, Invoked         E1        same
+ *   REROUTE           2    Invoked                 E2        same
+ *   DLI1              -    all but Active          -         same
+ *   FACILITY          1    all but Active          -         same
+ *   ALERTING          1    all but Active          -         same
+ *   CONNECT           1    Proceeding, Delivered   -         same
+ *   CONNECT           1    Invoked                 X2        2 is gone
+ *   ALERTING          2    Invoked                 X1        2 is 1
+ *   CONNECT           2    Invoked                 X1        2 is 1
+ *   RELEASE           1    Invoked                 -         2 is 1
+ *   RELEASE           2    Invoked                 F1        2 is gone
+ *   RELEASE           1    all but Invoked         -         none
+ *   END               -    all but Invoked         X1        none
+ *   END               -    Invoked                 X1 X2     none
+ *
+ * FACILITY to RELEASE are the messages of RECEIVED. `Delivered` is here that without
+ * leg 2, `Invoked` that with it. "SETUP is 1": R1 and X1 go on the connection that
+ * was leg 1, and that of the SETUP is leg 1. "none": the record is free. All else is
+ * refused, FACILITY also where `cdo` is Idle.
+ *
+ * On an incoming call ALERTED sends A1, ANSWERED C1 (where `cdf` is Wait: D1), DIVERT
+ * I1 and END X1; all other events, and the opens, send nothing. */
+
+/* A message to send, by its letter in ASCII, and the arguments that it has; one that
+ * it does not have is 0.
+ *
+ *   A  ALERTING
+ *   C  CONNECT
+ *   D  CONNECT with DLI3       flag, number
+ *   I  callRerouting invoke    reason, option, counter, identifier, destination, diverting, original
+ *   R  its result              identifier
+ *   E  its error               identifier
+ *   X  RELEASE COMPLETE
+ *   S  SETUP with DLI2         reason, counter, destination, diverting, original
+ *   F  cfnrDivertedLegFailed
+ *
+ * More letters may come, perhaps without a leg, of later archives of the same
+ * layout. A host that meets one it does not know sends nothing in its place, sends
+ * the others, and reports the letter: what it leaves out, the far end waits for. */
+typedef struct whipsail_message {
+    uint8_t letter;
+    uint8_t leg;
+    uint8_t reason;
+    uint8_t option;
+    uint8_t counter; /* this diversion included */
+    uint8_t flag;    /* presentation allowed */
+    uint16_t identifier;
+    uint16_t destination; /* of S: the party to call */
+    uint16_t diverting;   /* of I: the last rerouting number, our own */
+    uint16_t original;    /* the original called number, or 0 */
+    uint16_t number;      /* the own number, if allowed */
+} whipsail_message;
+
+/* The answer to one event. The messages are to be sent in their order; those
+ * past the last one have the letter WHIPSAIL_NO_MESSAGE. */
+typedef struct whipsail_answer {
+    uint8_t code; /* WHIPSAIL_DONE, or why not: then all else is none */
+    uint8_t call;
+    whipsail_message sent[3];
+    uint8_t notice;  /* reason told to the caller; one that you do not know: as WHIPSAIL_UNKNOWN */
+    uint16_t number; /* shown to the caller */
+    uint32_t identifier; /* of I, R or E, or of the request that a CLOCK has ended */
+    uint8_t counter;     /* of I or S */
+} whipsail_answer;
+
+#endif
