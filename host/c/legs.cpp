@@ -1,6 +1,6 @@
-// A host in C++: an outgoing call is diverted twice, and the host keeps the
-// connection of each leg. Prints a line for each event: what to send, and which
-// party is connected on which leg then.
+// A host in C++: an outgoing call is diverted three times, the last time on its
+// second leg, and the host keeps the connection of each leg. Prints a line for each
+// event: what to send, and which party is connected on which leg then.
 #include <stdio.h>
 
 #include "whipsail_text.h"
@@ -60,9 +60,9 @@ whipsail_event received(uint8_t leg, uint8_t message, uint64_t time) {
     return made;
 }
 
-whipsail_event reroute(uint8_t reason, uint16_t destination, uint64_t time) {
+whipsail_event reroute(uint8_t leg, uint8_t reason, uint16_t destination, uint64_t time) {
     whipsail_event made = event(WHIPSAIL_REROUTE, time);
-    made.leg = 1;
+    made.leg = leg;
     made.reason = reason;
     made.option = WHIPSAIL_WITH_NUMBER;
     made.counter = 1;
@@ -78,12 +78,13 @@ int main() {
     whipsail_event open = event(WHIPSAIL_OPEN_OUTGOING, 1);
     open.first = 101;
     panel.meet(open);
-    panel.meet(reroute(WHIPSAIL_CFU, 102, 2));
+    panel.meet(reroute(1, WHIPSAIL_CFU, 102, 2));
     panel.meet(received(1, WHIPSAIL_ALERTING, 3));
-    panel.meet(reroute(WHIPSAIL_CFNR, 103, 4));
-    panel.meet(received(1, WHIPSAIL_RELEASE, 5));
-    panel.meet(received(2, WHIPSAIL_ALERTING, 6));
-    panel.meet(received(1, WHIPSAIL_CONNECT, 7));
-    panel.meet(event(WHIPSAIL_END, 8));
+    panel.meet(reroute(1, WHIPSAIL_CFNR, 103, 4));
+    panel.meet(reroute(2, WHIPSAIL_CFB, 104, 5));
+    panel.meet(received(1, WHIPSAIL_RELEASE, 6));
+    panel.meet(received(2, WHIPSAIL_ALERTING, 7));
+    panel.meet(received(1, WHIPSAIL_CONNECT, 8));
+    panel.meet(event(WHIPSAIL_END, 9));
     return 0;
 }

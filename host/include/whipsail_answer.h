@@ -32,8 +32,8 @@ enum {
 };
 
 /* Which connection is which leg. An incoming call has leg 1 alone. Of an outgoing
- * call leg 1 is the connection to `party` of its record; leg 2, that to
- * `waiting.number`, is there while `cdr` is Invoked. Legs change their numbers, in
+ * call leg 1 is the connection to `party` of its record; leg 2, that to the last
+ * number of `waiting`, is there while `cdr` is Invoked. Legs change their numbers, in
  * one case (RELEASE on leg 1 in Invoked) without a message. Send the messages in
  * their order, each on the leg as it was numbered before the event. A leg ends by X
  * sent on it or RELEASE received on it, and S opens the leg that it bears; where
@@ -44,7 +44,9 @@ enum {
  *   REROUTE CFNR      1    Delivered               R1 S2     SETUP is 2
  *   REROUTE CFNR      1    Proceeding              E1        same
  *   REROUTE           1    Active, Invoked         E1        same
- *   REROUTE           2    Invoked                 E2        same
+ *   REROUTE CFU, CFB  2    Invoked (room)          R2 X2 S2  SETUP is 2
+ *   REROUTE CFU, CFB  2    Invoked (full)          E2        same
+ *   REROUTE CFNR      2    Invoked                 E2        same
  *   DLI1              -    all but Active          -         same
  *   FACILITY          1    all but Active          -         same
  *   ALERTING          1    all but Active          -         same
@@ -59,9 +61,11 @@ enum {
  *   END               -    Invoked                 X1 X2     none
  *
  * FACILITY to RELEASE are the messages of RECEIVED. `Delivered` is here that without
- * leg 2, `Invoked` that with it. "SETUP is 1": R1 and X1 go on the connection that
- * was leg 1, and that of the SETUP is leg 1. "none": the record is free. All else is
- * refused, FACILITY also where `cdo` is Idle.
+ * leg 2, `Invoked` that with it: with room while fewer than 15 DLI1s wait, full where
+ * 15 do (whipsail_waits). "SETUP is 1": R1 and X1 go on the connection that was leg 1,
+ * and that of the SETUP is leg 1; after X2 "SETUP is 2" says the same of leg 2, while
+ * leg 1 rings on. "none": the record is free. All else is refused, FACILITY also where
+ * `cdo` is Idle.
  *
  * On an incoming call ALERTED sends A1, ANSWERED C1 (where `cdf` is Wait: D1), DIVERT
  * I1 and END X1; all other events, and the opens, send nothing. */

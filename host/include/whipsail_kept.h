@@ -5,17 +5,24 @@
 
 #include <stdint.h>
 
-/* Most records of a table. */
+/* Most records of a table, and most DLI1s that wait on one call. */
 #define WHIPSAIL_RECORDS 64
+#define WHIPSAIL_WAITING 15
 
 /* The format of what is kept. A host that keeps station and table over a restart
  * keeps this number beside them; where another stands there, it does not lend
  * them, but starts again with zeroed records and a fresh station. It moves
  * whenever the layout of whipsail_call or whipsail_station changes, or what their
  * bytes mean, or which of them are sound; the archive's own is handed back by
- * whipsail_layout_linked(). What was kept before there was a number has the layout
- * of 1, but may not be sound: whipsail_station says when. */
-#define WHIPSAIL_FORMAT 1
+ * whipsail_layout_linked().
+ *
+ * What was kept under 1 may also be converted: the station as it is, and of each
+ * record every field into that of its name, `waiting` into `waiting.first`, the rest
+ * 0. (A record of 1 had 40 bytes: eight codes as now, party 8, waiting 10, history 14,
+ * own 20, diverting 22, original 24, identifier 26, reason 28, start 32.) What was kept
+ * before there was a number has the layout of 1, but may not be sound:
+ * whipsail_station says when. */
+#define WHIPSAIL_FORMAT 2
 
 /* A divertingLegInformation1: reason, option and nominated number. */
 typedef struct whipsail_dli1 {
@@ -23,6 +30,20 @@ typedef struct whipsail_dli1 {
     uint8_t option;
     uint16_t number;
 } whipsail_dli1;
+
+/* The DLI1s that wait in Invoked, in the order in which they came: the first of the
+ * CFNR that opened leg 2, and behind it one for each CFU or CFB that was accepted on
+ * leg 2. The party on leg 2 is the number of the last: later[count - 1], or first
+ * where count is 0.
+ *
+ * While they wait the caller is told of none. Where leg 2 becomes leg 1, all reach the
+ * history in order, and a notice is that of the first; where leg 2 is gone or the call
+ * ends, they are dropped. */
+typedef struct whipsail_waits {
+    whipsail_dli1 first;                       /* CFNR */
+    uint8_t count;                             /* how many wait behind it, 0 to 14 */
+    whipsail_dli1 later[WHIPSAIL_WAITING - 1]; /* CFU or CFB; from later[count] on all 0 */
+} whipsail_waits;
 
 /* What the caller was told so far; all 0 before the first DLI1 of the call. */
 typedef struct whipsail_history {
@@ -43,15 +64,15 @@ typedef struct whipsail_call {
     uint8_t cdf;       /* 0 none, 1 Wait, 2 done */
     uint8_t granted;   /* mark */
     uint8_t counter;
+    uint64_t start;           /* T1 start of the open request of an incoming call */
     uint16_t party;           /* leg 1 of an outgoing call */
-    whipsail_dli1 waiting;    /* in Invoked; its number is leg 2 */
     whipsail_history history; /* of an outgoing call */
-    uint16_t own;             /* of an incoming call, as all that follows */
+    uint16_t own;             /* of an incoming call, as the next four */
     uint16_t diverting;
     uint16_t original;
-    uint16_t identifier; /* of the open request, not 0 */
-    uint8_t reason;      /* of the open request or the grant */
-    uint64_t start;      /* T1 start of the open request */
+    uint16_t identifier;    /* of the open request, not 0 */
+    uint8_t reason;         /* of the open request or the grant */
+    whipsail_waits waiting; /* of an outgoing call, in Invoked */
 } whipsail_call;
 
 /* May be kept with its table over a restart. Earlier archives gave identifier 0

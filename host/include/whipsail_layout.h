@@ -15,7 +15,7 @@
  * crates/whipsail_layout, the link name in host/rust/src/raw.rs, and the list in
  * host/compare/layouts (host/README.md). WHIPSAIL_FORMAT is the number of what is
  * kept; it has its own places. */
-#define WHIPSAIL_LAYOUT_NUMBER 1
+#define WHIPSAIL_LAYOUT_NUMBER 2
 
 /* SIZE(struct, bytes), then AT(struct, field, offset) for each field. */
 #define WHIPSAIL_LAYOUT(SIZE, AT)                                                                                      \
@@ -29,12 +29,14 @@
     SIZE(history, 6)                                                                                                   \
     AT(history, seen, 0) AT(history, strictest, 1) AT(history, forbidden, 2) AT(history, shown, 3)                     \
     AT(history, nominated, 4)                                                                                          \
-    SIZE(call, 40)                                                                                                     \
+    SIZE(waits, 62)                                                                                                    \
+    AT(waits, first, 0) AT(waits, count, 4) AT(waits, later, 6)                                                        \
+    SIZE(call, 96)                                                                                                     \
     AT(call, direction, 0) AT(call, basic, 1) AT(call, cdo, 2) AT(call, cdr, 3)                                        \
     AT(call, cds, 4) AT(call, cdf, 5) AT(call, granted, 6) AT(call, counter, 7)                                        \
-    AT(call, party, 8) AT(call, waiting, 10) AT(call, history, 14) AT(call, own, 20)                                   \
-    AT(call, diverting, 22) AT(call, original, 24) AT(call, identifier, 26) AT(call, reason, 28)                       \
-    AT(call, start, 32)                                                                                                \
+    AT(call, start, 8) AT(call, party, 16) AT(call, history, 18) AT(call, own, 24)                                     \
+    AT(call, diverting, 26) AT(call, original, 28) AT(call, identifier, 30) AT(call, reason, 32)                       \
+    AT(call, waiting, 34)                                                                                              \
     SIZE(station, 16)                                                                                                  \
     AT(station, last, 0) AT(station, next, 8) AT(station, limit, 10)                                                   \
     SIZE(message, 16)                                                                                                  \
@@ -54,9 +56,9 @@
     AT(rehearsed, code, 0) AT(rehearsed, ending, 1) AT(rehearsed, last, 2) AT(rehearsed, counter, 4)                   \
     SIZE(read, 32)                                                                                                     \
     AT(read, whole, 0) AT(read, event, 8)                                                                              \
-    SIZE(board, 2584)                                                                                                  \
+    SIZE(board, 6168)                                                                                                  \
     AT(board, station, 0) AT(board, len, 16) AT(board, calls, 24)                                                      \
-    SIZE(ran, 2608)                                                                                                    \
+    SIZE(ran, 6192)                                                                                                    \
     AT(ran, done, 0) AT(ran, refused, 8) AT(ran, cut, 16) AT(ran, board, 24)
 
 #if defined(__cplusplus) && __cplusplus >= 201103L

@@ -6,10 +6,10 @@ use crate::{convert, library, Run, Step};
 use model::codes::*;
 use model::event::SIZE;
 use model::lent::{self, Case};
-use model::profile::{self, Profile, Walk};
+use model::profile;
 use model::random::Random;
 use model::record::FIELDS;
-use model::{guided, panel, Event, Record, Station};
+use model::{guided, panel, vectors, Event, Record, Station};
 use plain::answer::Answer;
 use plain::call::Call;
 
@@ -25,7 +25,12 @@ pub fn check(works: &[Workload]) {
     for _ in 0..CASES {
         same(&lent::case(&mut random));
     }
-    profile::ALL.into_iter().for_each(played);
+    for profile in profile::ALL {
+        played(profile.name(), &profile::events(profile, 3, PLAYED));
+    }
+    for (name, bytes) in vectors::all() {
+        played(name, &panel::records(&bytes).0);
+    }
     every_field(&mut random);
     one_mark();
     works.iter().for_each(every_bit);
@@ -138,37 +143,28 @@ fn one_mark() {
     same(&case);
 }
 
-/// A list of events one by one, and all of it in a run.
-fn played(profile: Profile) {
-    let mut walk = Walk::new(profile, 3);
-    let (table, station) = (convert::table(&walk.table), convert::station(&walk.station));
-    let (mut events, mut done) = (Vec::new(), 0);
-    for _ in 0..PLAYED {
-        let (table, station) = (walk.table.clone(), walk.station);
-        let (event, answer) = walk.advance();
+/// A list of events from the panel's start, one by one, and all of it in a run.
+fn played(name: &str, events: &[Event]) {
+    let (mut records, mut stands) = panel::start();
+    let (table, station) = (convert::table(&records), convert::station(&stands));
+    let mut done = 0;
+    for &event in events {
         same(&Case {
-            table,
-            station,
+            table: records.clone(),
+            station: stands,
             event,
         });
-        events.push(event);
+        let answer = model::step(&mut records, &mut stands, &event);
         done += usize::from(answer.code == 0);
     }
-    let bytes = panel::bytes(&events);
-    let left = (
-        done,
-        convert::station(&walk.station),
-        convert::table(&walk.table),
-    );
-    for (name, run) in [
+    let bytes = panel::bytes(events);
+    let left = (done, convert::station(&stands), convert::table(&records));
+    for (engine, run) in [
         ("plain", plain::lent::run as Run),
         ("library", library::run),
     ] {
         let (mut table, mut station) = (table.clone(), station);
         let done = run(&mut table, &mut station, &bytes);
-        assert!(
-            (done, station, table) == left,
-            "{name}: a run of {profile:?}"
-        );
+        assert!((done, station, table) == left, "{engine}: a run of {name}");
     }
 }

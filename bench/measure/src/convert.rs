@@ -2,7 +2,7 @@
 //! `whipsail.h`.
 
 use plain::answer::{Answer, Message};
-use plain::call::{Call, Unused};
+use plain::call::{Call, Dli1, Unused};
 use plain::event::Event;
 use plain::station::Station;
 
@@ -16,10 +16,8 @@ pub fn call(r: &model::Record) -> Call {
         cdf: r.cdf,
         granted: r.granted,
         counter: r.counter,
+        start: r.start,
         party: r.leg1,
-        waiting_reason: r.waiting_reason,
-        waiting_option: r.waiting_option,
-        forwarded: r.leg2,
         seen: r.seen,
         strictest: r.strictest,
         forbidden: r.forbidden,
@@ -31,8 +29,19 @@ pub fn call(r: &model::Record) -> Call {
         identifier: r.identifier,
         reason: r.reason,
         // anything may stand there
-        unused: Unused([0xa5; 3]),
-        start: r.start,
+        unused: Unused(0xa5),
+        first: dli1(&r.waits.first),
+        count: r.waits.count,
+        unused_too: Unused(0x5a),
+        later: r.waits.later.each_ref().map(dli1),
+    }
+}
+
+fn dli1(d: &model::Dli1) -> Dli1 {
+    Dli1 {
+        reason: d.reason,
+        option: d.option,
+        number: d.number,
     }
 }
 

@@ -36,7 +36,7 @@ struct Ran {
 }
 
 const _: () = assert!(size_of::<Input>() == 40 && size_of::<Told>() == 80);
-const _: () = assert!(size_of::<Board>() == 2584 && size_of::<Ran>() == 2608);
+const _: () = assert!(size_of::<Board>() == 6168 && size_of::<Ran>() == 6192);
 const _: () = assert!(size_of::<Call>() == size_of::<whipsail::Call>());
 
 extern "C" {

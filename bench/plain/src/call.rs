@@ -11,10 +11,8 @@ pub struct Call {
     pub cdf: u8,
     pub granted: u8,
     pub counter: u8,
+    pub start: u64,
     pub party: u16,
-    pub waiting_reason: u8,
-    pub waiting_option: u8,
-    pub forwarded: u16,
     pub seen: u8,
     pub strictest: u8,
     pub forbidden: u8,
@@ -26,14 +24,30 @@ pub struct Call {
     pub identifier: u16,
     pub reason: u8,
     pub unused: Unused,
-    pub start: u64,
+    pub first: Dli1,
+    /// How many of `later` wait behind the first.
+    pub count: u8,
+    pub unused_too: Unused,
+    pub later: [Dli1; LATER],
 }
 
-/// Bytes that are no field: named, so that each byte of a record has a value, and
-/// equal whatever they are.
+/// One that waits with leg 2.
+#[derive(Clone, Copy, Debug, Default, PartialEq)]
+#[repr(C)]
+pub struct Dli1 {
+    pub reason: u8,
+    pub option: u8,
+    pub number: u16,
+}
+
+/// Most that wait behind the first.
+pub const LATER: usize = 14;
+
+/// A byte that is no field: named, so that each byte of a record has a value, and
+/// equal whatever it is.
 #[derive(Clone, Copy, Debug, Default)]
 #[repr(C)]
-pub struct Unused(pub [u8; 3]);
+pub struct Unused(pub u8);
 
 impl PartialEq for Unused {
     fn eq(&self, _: &Unused) -> bool {
@@ -41,15 +55,21 @@ impl PartialEq for Unused {
     }
 }
 
+/// Words of a record.
+pub const WORDS: usize = 12;
+
 impl Call {
-    /// The record as it lies in memory, five words.
+    /// The record as it lies in memory.
     #[inline(always)]
     #[allow(unsafe_code)]
-    pub fn words(self) -> [u64; 5] {
-        // SAFETY: both are 40 bytes of plain numbers, without padding.
-        unsafe { std::mem::transmute(self) }
+    pub fn words(&self) -> &[u64; WORDS] {
+        // SAFETY: both are 96 bytes of plain numbers, without padding, and a record
+        // is aligned as a word is.
+        unsafe { &*(self as *const Call).cast() }
     }
 }
+
+const _: () = assert!(size_of::<Call>() == 8 * WORDS && align_of::<Call>() == align_of::<u64>());
 
 pub const FREE: u8 = 0;
 pub const OUTGOING: u8 = 1;

@@ -115,58 +115,66 @@ impl Call {
             return Answer::refused(5);
         }
         Answer {
-            notice: self.dli1(e.reason, e.option, e.second),
+            notice: self.dli1(waiting(e)),
             ..Answer::done(e.call)
         }
     }
 
     #[inline(always)]
     pub fn rerouted(&mut self, e: &Event) -> Answer {
-        if e.leg == 2 && self.cdr == 0 {
-            return Answer::refused(5);
-        }
+        let no_reply = e.reason == CFNR;
+        let not_taken = match (self.cdr, e.leg) {
+            (0, 2) => return Answer::refused(5),
+            (0, _) => self.basic == ACTIVE || (no_reply && self.basic != RINGING),
+            (_, leg) => leg == 1 || no_reply || usize::from(self.count) >= LATER,
+        };
         let mut answer = Answer {
             identifier: u32::from(e.identifier),
             ..Answer::done(e.call)
         };
-        let no_reply = e.reason == CFNR;
-        if self.cdr == 1 || self.basic == ACTIVE || (no_reply && self.basic != RINGING) {
+        if not_taken {
             answer.sent[0] = echo(b'E', e.leg, e.identifier);
             return answer;
         }
         answer.counter = e.counter;
-        answer.sent[0] = echo(b'R', 1, e.identifier);
+        answer.sent[0] = echo(b'R', e.leg, e.identifier);
         if no_reply {
-            answer.sent[1] = self.setup(e, 2);
+            answer.sent[1] = setup(e, 2, self.party);
             self.cdr = 1;
-            self.forwarded = e.second;
-            self.waiting_reason = e.reason;
-            self.waiting_option = e.option;
+            self.first = waiting(e);
+            return answer;
+        }
+        answer.sent[1] = bare(b'X', e.leg);
+        if e.leg == 2 {
+            answer.sent[2] = setup(e, 2, self.leg_2());
+            self.later[usize::from(self.count)] = waiting(e);
+            self.count += 1;
         } else {
-            answer.sent[1] = bare(b'X', 1);
-            answer.sent[2] = self.setup(e, 1);
+            answer.sent[2] = setup(e, 1, self.party);
             self.party = e.second;
             self.basic = PROCEEDING;
-            answer.notice = self.dli1(e.reason, e.option, e.second);
+            answer.notice = self.dli1(waiting(e));
         }
         answer
     }
 
+    /// The party on leg 2: the last number that waits.
     #[inline(always)]
-    fn setup(&self, e: &Event, leg: u8) -> Message {
-        Message {
-            reason: e.reason,
-            counter: e.counter,
-            destination: e.second,
-            diverting: self.party,
-            original: e.third,
-            ..bare(b'S', leg)
+    fn leg_2(&self) -> u16 {
+        match self.count {
+            0 => self.first.number,
+            count => self.later[usize::from(count) - 1].number,
         }
     }
 
     /// A DLI1 to the CDO; hands back the notice.
     #[inline(always)]
-    fn dli1(&mut self, reason: u8, option: u8, nominated: u16) -> u8 {
+    fn dli1(&mut self, told: Dli1) -> u8 {
+        let Dli1 {
+            reason,
+            option,
+            number,
+        } = told;
         let first = self.seen == 0;
         if first || option < self.strictest {
             self.strictest = option;
@@ -176,7 +184,7 @@ impl Call {
         }
         self.seen = 1;
         self.cdo = 1;
-        self.nominated = nominated;
+        self.nominated = number;
         if self.strictest != 0 && (first || reason == CFNR) {
             reason
         } else {
@@ -207,18 +215,22 @@ impl Call {
     #[inline(always)]
     fn drop_leg_2(&mut self) {
         self.cdr = 0;
-        self.forwarded = 0;
-        self.waiting_reason = 0;
-        self.waiting_option = 0;
+        self.first = Dli1::default();
+        self.count = 0;
+        self.later = [Dli1::default(); LATER];
     }
 
-    /// Leg 2 becomes leg 1; hands back the notice of its DLI1.
+    /// Leg 2 becomes leg 1, and all that wait reach the CDO; hands back the notice,
+    /// which the first alone can give.
     #[inline(always)]
     fn take_over(&mut self) -> u8 {
-        let (reason, option, party) = (self.waiting_reason, self.waiting_option, self.forwarded);
+        self.party = self.leg_2();
+        let notice = self.dli1(self.first);
+        for at in 0..usize::from(self.count) {
+            self.dli1(self.later[at]);
+        }
         self.drop_leg_2();
-        self.party = party;
-        self.dli1(reason, option, party)
+        notice
     }
 
     #[inline(always)]
@@ -260,5 +272,27 @@ impl Call {
             _ => {}
         }
         answer
+    }
+}
+
+/// What the event tells of a diversion.
+#[inline(always)]
+fn waiting(e: &Event) -> Dli1 {
+    Dli1 {
+        reason: e.reason,
+        option: e.option,
+        number: e.second,
+    }
+}
+
+#[inline(always)]
+fn setup(e: &Event, leg: u8, diverting: u16) -> Message {
+    Message {
+        reason: e.reason,
+        counter: e.counter,
+        destination: e.second,
+        diverting,
+        original: e.third,
+        ..bare(b'S', leg)
     }
 }

@@ -44,63 +44,69 @@ impl Marks {
 /// once. What each method hands back is 0 where all its fields are.
 struct Words {
     codes: u64,
-    legs: u64,
-    middle: u64,
-    rest: u64,
     start: u64,
+    /// Party and history.
+    legs: u64,
+    /// Own, diverting, original, identifier.
+    numbers: u64,
+    /// The reason, and the first that waits with the count.
+    rest: u64,
+    /// All that wait behind the first, in one.
+    later: u64,
 }
 
 impl Words {
     #[inline(always)]
     fn of(call: &Call) -> Words {
-        let [codes, legs, middle, rest, start] = call.words();
+        let [codes, start, legs, numbers, rest, later @ ..] = call.words();
         Words {
-            codes,
-            legs,
-            middle,
+            codes: *codes,
+            start: *start,
+            legs: *legs,
+            numbers: *numbers,
             // without the bytes that are no field
-            rest: rest & 0xff_ffff_ffff,
-            start,
+            rest: rest & 0x00ff_ffff_ffff_00ff,
+            later: later.iter().fold(0, |all, word| all | word),
         }
     }
 
     fn all(&self) -> u64 {
-        self.codes | self.legs | self.middle | self.rest | self.start
+        self.codes | self.start | self.legs | self.numbers | self.rest | self.later
     }
 
     /// What only an outgoing call has.
     fn outgoing(&self) -> u64 {
-        self.codes & 0xffff_0000 | self.legs | self.middle & 0xffff_ffff
+        self.codes & 0xffff_0000 | self.legs | self.waiting()
     }
 
     /// What only an incoming call has.
     fn incoming(&self) -> u64 {
-        (self.codes | self.middle) >> 32 | self.rest | self.start
+        self.codes >> 32 | self.start | self.numbers | self.rest & 0xff
     }
 
-    /// Reason, option and number of the DLI1 that waits.
+    /// What waits, with its count.
     fn waiting(&self) -> u64 {
-        self.legs & 0xffff_ffff_0000
+        self.rest >> 16 | self.later
     }
 
     /// Seen, strictest, forbidden, shown, nominated.
     fn history(&self) -> u64 {
-        self.legs >> 48 | self.middle & 0xffff_ffff
+        self.legs >> 16
     }
 
     /// What is above 1 of forbidden and shown.
     fn above_marks(&self) -> u64 {
-        self.middle & 0xfefe
+        self.legs & 0xfefe_0000_0000
     }
 
     /// Diverting and original.
     fn diverted(&self) -> u64 {
-        self.middle >> 48 | self.rest & 0xffff
+        self.numbers & 0xffff_ffff_0000
     }
 
     /// Identifier, reason and start.
     fn request(&self) -> u64 {
-        self.rest >> 16 | self.start
+        self.numbers >> 48 | self.rest & 0xff | self.start
     }
 }
 
@@ -137,12 +143,23 @@ impl Call {
             0 => w.waiting() == 0 && self.basic_holds(),
             1 => {
                 self.basic == RINGING
-                    && self.waiting_reason == CFNR
-                    && self.waiting_option <= 2
-                    && self.forwarded != 0
+                    && self.first.reason == CFNR
+                    && self.first.holds()
+                    && self.later_hold()
             }
             _ => false,
         }
+    }
+
+    /// Cfu or cfb as far as the count says, and nothing behind them.
+    #[inline(always)]
+    fn later_hold(&self) -> bool {
+        let Some((used, unused)) = self.later.split_at_checked(usize::from(self.count)) else {
+            return false;
+        };
+        used.iter()
+            .all(|later| matches!(later.reason, 1 | 2) && later.holds())
+            && unused.iter().all(|later| *later == Dli1::default())
     }
 
     #[inline(always)]
@@ -186,5 +203,12 @@ impl Call {
             RINGING => self.reason == CFNR,
             _ => false,
         }
+    }
+}
+
+impl Dli1 {
+    #[inline(always)]
+    fn holds(&self) -> bool {
+        self.option <= 2 && self.number != 0
     }
 }

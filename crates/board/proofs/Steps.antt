@@ -6,7 +6,7 @@ use native.Mathlib.Omega.{arith}
 use borrow.Author.Tests.{not-true}
 use lib.Count.{trailingZeros}
 use lib.Dec.{ltb}
-use lib.ListN.{length, getD}
+use lib.ListN.{length, getD, set}
 use Rattle.ground.specs.Lists.{first}
 use Rattle.ground.proofs.Bools.{by-cases}
 use Rattle.ground.proofs.Walks.{both}
@@ -15,14 +15,14 @@ use Rattle.call.specs.declared.Effect.{Effect}
 use Rattle.call.specs.Record.{freeCall}
 use Rattle.station.specs.Table.{sound}
 use Rattle.station.specs.Refusals.{refusal}
-use Rattle.station.specs.Step.{byNumber, step, stepOnSound}
+use Rattle.station.specs.Step.{answerOf, byNumber, step, stepOnSound}
 use Rattle.notes.specs.declared.Notes.{Notes}
 use Rattle.notes.specs.Notes.{under, never, identifierIn}
 use Rattle.turn.specs.declared.Seen.{Seen}
 use Rattle.turn.specs.declared.Turn.{Turn}
 use Rattle.turn.specs.declared.Turn.the-variants.{Refused, NoneDue, Done}
-use Rattle.turn.specs.Turn.{placeOf, turnOf, stationOn, outcomeOf, Sees}
-use Rattle.turn.proofs.Turns.{refused-number, done-there}
+use Rattle.turn.specs.Turn.{placeOf, turnOf, actedOf, doable, stationOn, outcomeOf, Sees}
+use Rattle.turn.proofs.Turns.{refused-number, done-there, done-doable}
 use Rattle.turn.proofs.Laws.{turn-steps}
 use Rattle.board.specs.declared.Board.{Board}
 use Rattle.board.specs.Board.{tableOf, putBack, soundBoard, stepBoard, stepSoundBoard}
@@ -47,12 +47,16 @@ module _ (b : Board) (d : Notes) (e : Event) (h : b .len ≤ 64) (w : Beside (b 
   pub turn-none : t ≡ NoneDue → noneDueBoard b (stationOn (b .station) e (v .identifier)) ≡ stepSoundBoard b e
   turn-none q = sym (back-none b (stationOn (b .station) e (v .identifier))) ∙ ap (λ x. putBack b (outcomeOf (b .station) (tableOf b) e v x)) (sym q) ∙ steps
 
-  pub turn-there : (x : Effect) → t ≡ Done x → v .place < b .len
-  turn-there x q = let l = done-there (b .station) e v x (sym r ∙ q) in omega (arith, l, size)
+  pub turn-there : t ≡ Done → v .place < b .len
+  turn-there q = let l = done-there (b .station) e v (sym r ∙ q) in omega (arith, l, size)
 
-  pub turn-done : (x : Effect) → t ≡ Done x → doneBoard b (stationOn (b .station) e (v .identifier)) (v .place) x ≡ stepSoundBoard b e
-  turn-done x q =
-      sym (back-done b (stationOn (b .station) e (v .identifier)) (v .place) x (turn-there x q))
+  pub turn-doable : t ≡ Done → b .station .limit < 256 → doable e v
+  turn-doable q l = done-doable (b .station) e v (sym r ∙ q) l
+
+  pub turn-done : (x : Effect) → t ≡ Done → x ≡ actedOf e v → doneBoard b (stationOn (b .station) e (v .identifier)) (v .place) x ≡ stepSoundBoard b e
+  turn-done x q a =
+      sym (back-done b (stationOn (b .station) e (v .identifier)) (v .place) x (turn-there q))
+      ∙ ap (λ y. putBack b (record { answer = answerOf (v .place) y; station = stationOn (b .station) e (v .identifier); calls = set (tableOf b) (v .place) (y .call) })) a
       ∙ ap (λ y. putBack b (outcomeOf (b .station) (tableOf b) e v y)) (sym q) ∙ steps
 
 -- a step on a board that was tested

@@ -9,6 +9,7 @@ use Rattle.ground.proofs.Walks.{and-false}
 use Rattle.event.specs.declared.Event.{Event}
 use Rattle.event.specs.Kinds.{cfu, cfb, cfnr}
 use Rattle.event.specs.WellMade.{openFields, openDivertedFields}
+use Rattle.waits.proofs.Kept.{none-unused}
 use Rattle.call.specs.declared.Call.{Call}
 use Rattle.call.specs.declared.Effect.{Effect}
 use Rattle.call.specs.Record.{proceeding, active, requested, granted, wait, undiverted, fits}
@@ -25,7 +26,7 @@ from-zero n = le→leb 0 n (omega arith)
 to-itself : (n : ℕ) → T (leb n n)
 to-itself n = le→leb n n (omega arith)
 
-ruleset joins = (and-l, and-r, and-i, or-inl, nor-r, from-zero, to-itself, trivial)
+ruleset joins = (and-l, and-r, and-i, or-inl, nor-r, from-zero, to-itself, trivial, none-unused)
 
 -- a reason that fits is that of a call which is not Active
 fits-apart : (reason : ℕ) (c : Call) → T (fits reason c) → T (not (active c))

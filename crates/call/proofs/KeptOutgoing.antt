@@ -3,21 +3,26 @@ use Prim.Native.Nat.{ℕ, min}
 use native.Mathlib.Omega.{arith}
 use mathlib.Core.Path.{_≡_}
 use mathlib.Core.Bool.{Bool, true, false, not, _&&_}
+use mathlib.Core.List.{List, [], _∷_}
 use lib.Dec.{T, leb, eqb, eqb→eq, leb→le, le→leb, T-not}
 use Rattle.ground.specs.Choice.{when_then_else_}
+use Rattle.ground.specs.Lists.{all}
 use Rattle.ground.proofs.Bools.{and-l, and-r, and-i, or-inl, nor-l, nor-r, is-true, is-false, by-cases, when-has, trivial}
 use Rattle.event.specs.declared.Event.{Event}
 use Rattle.event.specs.Kinds.{cfnr, alerting, connect}
 use Rattle.event.specs.WellMade.{openFields, reroutingFields, dli1Fields}
 use Rattle.notice.specs.declared.Dli1.{Dli1}
 use Rattle.notice.specs.declared.History.{History}
-use Rattle.notice.specs.Notice.{seen, strictestWith, takeDli1, afterDli3}
+use Rattle.notice.specs.Notice.{seen, strictestWith, takeDli1, afterDli1, afterDli3}
+use Rattle.waits.specs.Waits.{waitsFor, behind, waitsWith, room, afterAll, takeAll}
+use Rattle.waits.specs.Soundness.{firstHolds, laterHolds, waitsHold, waitsUnused}
+use Rattle.waits.proofs.Kept.{none-unused, for-holds, with-holds, Held, held}
 use Rattle.call.specs.declared.Call.{Call}
 use Rattle.call.specs.declared.Effect.{Effect}
 use Rattle.call.specs.Record.{active, delivered, divert, invoked, forwardedParty}
 use Rattle.call.specs.Fields.{basic-is, cdo-is, cdr-is, party-is, waiting-is, history-is}
-use Rattle.call.specs.Soundness.{exactly, waitingHolds, historyHolds, dli1Unused}
-use Rattle.call.specs.Outgoing.{openedOutgoing, dli1Of, toCdo, cdrIdle, movedOver, withDli3, afterMessage, turnsDown, rerouted, informed, takenOver, onFirstLeg, leg2Remains}
+use Rattle.call.specs.Soundness.{exactly, waitingHolds, historyHolds}
+use Rattle.call.specs.Outgoing.{openedOutgoing, dli1Of, toCdo, cdrIdle, movedOver, withDli3, afterMessage, goesOn, turnsDown, rerouted, informed, takenOver, onFirstLeg, leg2Remains}
 use Rattle.call.proofs.Denials.{denied, never}
 use Rattle.call.proofs.Sound.{Outgoing}
 
@@ -26,7 +31,7 @@ off : (b x y : Bool) → T (not b) → T y → T (when b then x else y)
 off true x y n t = absurd n
 off false x y n t = t
 
-ruleset joins = (and-l, and-r, and-i, or-inl, never, trivial)
+ruleset joins = (and-l, and-r, and-i, or-inl, never, trivial, none-unused)
 
 -- "CDR Idle": nothing waits any more
 pub cdr-idle-kept : {c : Call} → Outgoing c → Outgoing (cdrIdle c)
@@ -46,13 +51,13 @@ delivered-kept {c} w n =
 proceeding-kept : {c : Call} → Outgoing c → T (not (active c)) → T (not (invoked c)) → Outgoing (basic-is 1 c)
 proceeding-kept {c} w n i =
     let d = simp (is-false (active c) n) at (w .divert) in
-    let z : T (dli1Unused (c .waiting)) = simp (is-false (invoked c) i) at (w .waiting) in
+    let z : T (waitsUnused (c .waiting)) = simp (is-false (invoked c) i) at (w .waiting) in
     search (joins, off) depth 12
 
 -- "CONNECT Active and, after its DLI3, CDO Idle"
 active-kept : {c : Call} → Outgoing c → T (not (invoked c)) → Outgoing (basic-is 3 (cdo-is 0 c))
 active-kept {c} w i =
-    let z : T (dli1Unused (c .waiting)) = simp (is-false (invoked c) i) at (w .waiting) in
+    let z : T (waitsUnused (c .waiting)) = simp (is-false (invoked c) i) at (w .waiting) in
     search (joins, off) depth 12
 
 -- "now leg 1", "leg 2 becomes leg 1"
@@ -65,8 +70,21 @@ record InRange (d : Dli1) : Type 0 where
   number : T (not (eqb (d .number) 0))
 
 -- "SETUP with DLI2 on leg 2, Invoked."
-waiting-kept : {c : Call} (d : Dli1) → Outgoing c → InRange d → T (eqb (d .reason) cfnr) → T (delivered c) → Outgoing (cdr-is 1 (waiting-is d c))
-waiting-kept d w n r b = search joins depth 12
+waiting-kept : {c : Call} (d : Dli1) → Outgoing c → InRange d → T (eqb (d .reason) cfnr) → T (delivered c) → Outgoing (cdr-is 1 (waiting-is (waitsFor d) c))
+waiting-kept d w n r b =
+    let f : T (firstHolds d) = search joins depth 8 in
+    let h = for-holds d f in
+    search joins depth 12
+
+-- document 02, Six: "Each waiting DLI1 is kept": one more waits
+waiting-more-kept : {c : Call} (d : Dli1) → Outgoing c → T (invoked c) → T (room (c .waiting)) → T (laterHolds d)
+    → Outgoing (waiting-is (waitsWith (c .waiting) d) c)
+waiting-more-kept {c} d w i r p =
+    let q = is-true (invoked c) i in
+    let u = simp q at (w .waiting) in
+    let h = with-holds (c .waiting) d r (and-r (delivered c) (waitsHold (c .waiting)) u) p in
+    let v : T (waitingHolds (waiting-is (waitsWith (c .waiting) d) c)) = simp q (search joins depth 8) in
+    search
 
 -- "strictest option": with one more it stays in range
 stricter : (h : History) (option : ℕ) → T (leb option 2) → T (leb (strictestWith h option) 2)
@@ -91,6 +109,16 @@ dli1-kept {c} d w n a =
     let m = marks (c .history) (w .history) in
     let s = stricter (c .history) (d .option) (n .option) in
     search (joins, cleared) depth 12
+
+-- and those behind it
+later-kept : (c : Call) (h : History) (l : List Dli1) → Outgoing (cdo-is 1 (history-is h c)) → T (not (active c)) → T (all laterHolds l)
+    → Outgoing (cdo-is 1 (history-is (afterAll h l) c))
+unfolding all afterAll
+later-kept c h [] w a t = w
+later-kept c h (d ∷ l) w a t =
+    let k : T (laterHolds d) = and-l (laterHolds d) (all laterHolds l) t in
+    let n : InRange d = search joins depth 8 in
+    later-kept c (afterDli1 h d) l (dli1-kept {c = cdo-is 1 (history-is h c)} d w n a) a (and-r (laterHolds d) (all laterHolds l) t)
 
 mark : (b : Bool) (n : ℕ) → T (leb n 1) → T (leb (when b then 1 else n) 1)
 mark true n l = tt
@@ -129,18 +157,24 @@ message-kept e c r = let q = dli3-ready e c r in
 -- what Invoked holds
 record Waits (c : Call) : Type 0 where
   inactive : T (not (active c))
-  inRange : InRange (c .waiting)
+  hold : Held (c .waiting)
 
 waits : {c : Call} → Outgoing c → T (invoked c) → Waits c
 waits {c} w i =
     let u = simp (is-true (invoked c) i) at (w .waiting) in
     let b : c .basic ≡ 2 = search (joins, eqb→eq) depth 8 in
-    record { inactive = rw b tt; inRange = search joins depth 8 }
+    record { inactive = rw b tt; hold = held (c .waiting) (and-r (delivered c) (waitsHold (c .waiting)) u) }
 
 -- "leg 2 becomes leg 1, CDR Idle, DLI1 to the CDO"
 moved-kept : {c : Call} → Outgoing c → T (invoked c) → Outgoing (movedOver c)
-moved-kept {c} w i = let s = waits w i in
-    cdr-idle-kept (party-kept (forwardedParty c) (dli1-kept (c .waiting) w (s .inRange) (s .inactive)) (s .inRange .number))
+unfolding takeAll
+moved-kept {c} w i =
+    let s = waits w i in
+    let first = c .waiting .first in
+    let f = s .hold .first in
+    let n : InRange first = search joins depth 8 in
+    let l = later-kept c (afterDli1 (c .history) first) (behind (c .waiting)) (dli1-kept first w n (s .inactive)) (s .inactive) (s .hold .later) in
+    cdr-idle-kept (party-kept (forwardedParty c) l (s .hold .party))
 
 -- the record that an effect leaves
 abbrev pub Leaves : Effect → Type 0
@@ -167,11 +201,16 @@ rerouted-kept {c} e w f =
     let d : InRange (dli1Of e) = search joins depth 12 in
     when-has Leaves (turnsDown c e) (λ _. w) (λ n.
     let a : T (not (active c)) = search (nor-l, nor-r) in
-    let i : T (not (invoked c)) = search (nor-l, nor-r) in
+    let o : T (not (invoked c && not (goesOn c e))) = search (nor-l, nor-r) in
     let m : T (not (eqb (e .reason) cfnr && not (delivered c))) = search nor-r in
-    when-has Leaves (eqb (e .reason) cfnr)
+    when-has Leaves (invoked c)
+    (λ i.
+    let g : T (goesOn c e) = denied (invoked c) (goesOn c e) o i in
+    let l : T (laterHolds (dli1Of e)) = search joins depth 12 in
+    waiting-more-kept (dli1Of e) w i (search joins depth 8) l)
+    (λ i. when-has Leaves (eqb (e .reason) cfnr)
     (λ r. waiting-kept (dli1Of e) w d r (denied (eqb (e .reason) cfnr) (delivered c) m r))
-    (λ _. proceeding-kept (party-kept (e .second) (dli1-kept (dli1Of e) w d a) (d .number)) a i))
+    (λ _. proceeding-kept (party-kept (e .second) (dli1-kept (dli1Of e) w d a) (d .number)) a i)))
 
 -- "13: .."
 pub informed-kept : {c : Call} (e : Event) → Outgoing c → T (dli1Fields e) → T (not (active c)) → Leaves (informed c e)

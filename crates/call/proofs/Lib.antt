@@ -12,3 +12,4 @@ pub mod Told
 pub mod Recalled
 pub mod Waits
 pub mod Identifiers
+pub mod Read

@@ -5,6 +5,10 @@ use mathlib.Core.Path.{_≡_}
 use mathlib.Core.Bool.{not, _&&_}
 use lib.Dec.{T, eqb, eqb→eq, leb→le, T-not, not-T}
 use Rattle.ground.proofs.Bools.{and-l, and-r, and-i, by-cases, is-true, from-true}
+use Rattle.ground.specs.Lists.{all}
+use Rattle.waits.specs.Waits.{noWaits}
+use Rattle.waits.specs.Soundness.{waitsUnused}
+use Rattle.waits.proofs.Kept.{unused-none}
 use Rattle.call.specs.declared.Call.{Call}
 use Rattle.call.specs.Record.{isFree, isOutgoing, isIncoming, requested, freeCall}
 use Rattle.call.specs.Soundness.{outgoingUnused, incomingUnused, outgoingCodes, partyThere, waitingHolds, historyHolds, divertHolds, soundOutgoing, incomingCodes, ownThere, cdfHolds, numbersHold, requestHolds, identifierThere, excludes, waitHolds, startHolds, soundIncoming, soundCall}
@@ -50,9 +54,7 @@ record AllZero (c : Call) : Type 0 where
   granted : c .granted ≡ 0
   counter : c .counter ≡ 0
   party : c .party ≡ 0
-  waiting-reason : c .waiting .reason ≡ 0
-  waiting-option : c .waiting .option ≡ 0
-  waiting-number : c .waiting .number ≡ 0
+  waiting : c .waiting ≡ noWaits
   seen : c .history .seen ≡ 0
   strictest : c .history .strictest ≡ 0
   forbidden : c .history .forbidden ≡ 0
@@ -66,7 +68,10 @@ record AllZero (c : Call) : Type 0 where
   start : c .start ≡ 0
 
 zeros : (c : Call) → T (isFree c) → T (eqb (c .basic) 0 && outgoingUnused c && incomingUnused c) → AllZero c
-zeros c d h = search parts depth 20
+zeros c d h =
+    let u : T (waitsUnused (c .waiting)) = search parts depth 20 in
+    let n = unused-none (c .waiting) u in
+    search parts depth 20
 
 all-zero : (c : Call) → AllZero c → c ≡ freeCall
 all-zero c w = λ z. record {
@@ -79,7 +84,7 @@ all-zero c w = λ z. record {
   granted = w .granted z;
   counter = w .counter z;
   party = w .party z;
-  waiting = record { reason = w .waiting-reason z; option = w .waiting-option z; number = w .waiting-number z };
+  waiting = w .waiting z;
   history = record {
     seen = w .seen z;
     strictest = w .strictest z;
@@ -109,7 +114,7 @@ unfolding soundCall soundIncoming
 incoming-of last c h d = let g : T (soundIncoming last c) = rw (eqb→eq (c .direction) 2 d) at h in search parts depth 12
 
 pub free-sound : (last : ℕ) → T (soundCall last freeCall)
-unfolding soundCall
+unfolding soundCall waitsUnused all
 free-sound last = tt
 
 pub outgoing-sound : (last : ℕ) {c : Call} → Outgoing c → T (soundCall last c)

@@ -17,14 +17,18 @@ use Rattle.event.specs.WellMade.{wellMade}
 use Rattle.notice.specs.Notice.{noNotice, noNumber, noHistory}
 use Rattle.notice.specs.Stricter.{ShownOnlyWhere, agreed, StricterDli1, lowered, StricterFlag, kept, forbade, StricterHistory}
 use Rattle.notice.proofs.Stricter.{dli1-stricter, notice-stricter, number-stricter, dli3-stricter, history-stricter}
+use Rattle.waits.specs.Waits.{noWaits}
+use Rattle.waits.proofs.Laws.{hands-over-stricter, hands-over-no-more, party-same}
+use Rattle.waits.proofs.Counted.{room-same}
+use Rattle.waits.proofs.Kept.{none-stricter, for-stricter, with-stricter}
 use Rattle.call.specs.declared.Call.{Call}
 use Rattle.call.specs.declared.Sent.{Sent}
 use Rattle.call.specs.declared.Effect.{Effect}
-use Rattle.call.specs.Record.{isFree, divert, invoked, noDli1, freeCall}
+use Rattle.call.specs.Record.{isFree, divert, invoked, freeCall}
 use Rattle.call.specs.State.{stateForbids}
 use Rattle.call.specs.Fields.{basic-is}
 use Rattle.call.specs.Incoming.{due, expired, actIncoming}
-use Rattle.call.specs.Outgoing.{dli1Of, turnsDown, redirected, forwarded, rerouted, informed, handOver, cdrIdle, movedOver, withDli3, numberFor, afterMessage, takenOver, onFirstLeg, leg2Remains, messaged, actOutgoing}
+use Rattle.call.specs.Outgoing.{dli1Of, turnsDown, redirected, forwarded, forwardedOn, rerouted, informed, handOver, cdrIdle, movedOver, withDli3, numberFor, afterMessage, takenOver, onFirstLeg, leg2Remains, messaged, actOutgoing}
 use Rattle.call.specs.Act.{opened, ended, act}
 use Rattle.call.specs.Stricter.{StricterEvent, same, lower, hide, StricterCall, stricter, StricterEffect}
 
@@ -42,14 +46,11 @@ quiet : {c c' : Call} {sent : Sent} {identifier counter : ℕ} → StricterCall 
     (record { call = c'; sent = sent; notice = noNotice; number = noNumber; identifier = identifier; counter = counter })
 quiet p = record { call = p; sent = refl; notice = agreed; number = agreed; identifier = refl; counter = refl }
 
-none-stricter : StricterDli1 noDli1 noDli1
-none-stricter = lowered noDli1 0 (omega arith) (omega arith)
-
 new-stricter : StricterHistory noHistory noHistory
 new-stricter = history-stricter noHistory (omega arith)
 
 pub free-stricter : StricterCall freeCall freeCall
-free-stricter = stricter freeCall noDli1 noHistory none-stricter new-stricter
+free-stricter = stricter freeCall noWaits noHistory none-stricter new-stricter
 
 -- "Rules for incoming calls"
 incoming-stricter : {c c' : Call} (e : Event) (identifier : ℕ) → StricterCall c c' → StricterEffect (actIncoming c e identifier) (actIncoming c' e identifier)
@@ -96,8 +97,19 @@ redirected-stricter c c' e e' (stricter _ w h p q) (framed _ option flag) d = re
 -- "Else cfnr: .."
 forwarded-stricter : ByDli1 forwarded
 forwarded-stricter c c' e e' (stricter _ w h p q) (framed _ option flag) d = record {
-  call = stricter _ _ h d q;
+  call = stricter _ _ h (for-stricter d) q;
   sent = refl;
+  notice = agreed;
+  number = agreed;
+  identifier = refl;
+  counter = refl;
+}
+
+-- document 02, Six: ".. SETUP with DLI2 .. to the new destination, now leg 2. Each waiting DLI1 is kept"
+forwarded-on-stricter : ByDli1 forwardedOn
+forwarded-on-stricter c c' e e' (stricter _ w h p q) (framed _ option flag) d = record {
+  call = stricter _ _ h (with-stricter p d) q;
+  sent = rw (party-same (c .waiting) w p) refl;
   notice = agreed;
   number = agreed;
   identifier = refl;
@@ -108,8 +120,10 @@ forwarded-stricter c c' e e' (stricter _ w h p q) (framed _ option flag) d = rec
 rerouted-stricter : ByDli1 rerouted
 rerouted-stricter c c' e e' (stricter _ w h p q) (framed _ option flag) d =
     let r : StricterCall c _ = stricter c w h p q in
-    when-effect (turnsDown c e) (λ t. quiet r)
-    (when-effect (eqb (e .reason) cfnr) (λ t. forwarded-stricter c _ e _ r (framed e option flag) d) (redirected-stricter c _ e _ r (framed e option flag) d))
+    rw (room-same (c .waiting) w p)
+    (when-effect (turnsDown c e) (λ t. quiet r)
+    (when-effect (invoked c) (λ t. forwarded-on-stricter c _ e _ r (framed e option flag) d)
+    (when-effect (eqb (e .reason) cfnr) (λ t. forwarded-stricter c _ e _ r (framed e option flag) d) (redirected-stricter c _ e _ r (framed e option flag) d))))
 
 -- "13: .."
 informed-stricter : ByDli1 informed
@@ -124,10 +138,11 @@ informed-stricter c c' e e' (stricter _ w h p q) (framed _ option flag) d = reco
 
 -- "leg 2 becomes leg 1, CDR Idle, DLI1 to the CDO"
 moved-stricter : {c c' : Call} → StricterCall c c' → StricterCall (movedOver c) (movedOver c')
-moved-stricter (stricter c w h (lowered d option k l) q) = stricter _ noDli1 _ none-stricter (dli1-stricter q (lowered (c .waiting) option k l))
+moved-stricter (stricter c w h p q) =
+    rw (party-same (c .waiting) w p) (stricter _ noWaits _ none-stricter (hands-over-stricter (c .history) h (c .waiting) w q p))
 
 handed-notice : {c c' : Call} → StricterCall c c' → ShownOnlyWhere noNotice (handOver c .notice) (handOver c' .notice)
-handed-notice (stricter c w h p q) = notice-stricter q p
+handed-notice (stricter c w h p q) = hands-over-no-more (c .history) h (c .waiting) w q p
 
 -- "DLI3 in Divert .."; "In CDO Idle .. passed over"
 dli3-call : {c c' : Call} {e e' : Event} → StricterCall c c' → Framed e e' → StricterFlag (e .flag) (e' .flag)
@@ -145,7 +160,7 @@ after-stricter e (stricter c w h p q) =
     (when-keeps StricterCall (connect e) (λ t. stricter _ w h p q) (stricter c w h p q))
 
 idle-stricter : {c c' : Call} → StricterCall c c' → StricterCall (cdrIdle c) (cdrIdle c')
-idle-stricter (stricter c w h p q) = stricter _ noDli1 h none-stricter q
+idle-stricter (stricter c w h p q) = stricter _ noWaits h none-stricter q
 
 -- "In Invoked, ALERTING or CONNECT on leg 2: .."
 taken-stricter : ByDli3 takenOver

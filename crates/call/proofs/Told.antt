@@ -15,21 +15,26 @@ use Rattle.event.specs.WellMade.{reroutingFields, messageFields, wellMade}
 use Rattle.notice.specs.declared.History.{History}
 use Rattle.notice.specs.Notice.{noNotice, noNumber, noHistory, seen, numberShown, afterDli3}
 use Rattle.notice.specs.Whole.{Told, dli1, diverted}
+use Rattle.notice.specs.declared.Dli1.{Dli1}
+use Rattle.waits.specs.Waits.{dli1s}
+use Rattle.waits.specs.Soundness.{waitsHold}
+use Rattle.waits.proofs.Kept.{Held, held}
 use Rattle.call.specs.declared.Call.{Call}
 use Rattle.call.specs.declared.Sent.{Sent}
 use Rattle.call.specs.declared.Effect.{Effect}
-use Rattle.call.specs.Record.{isFree, active, divert, invoked, wait, freeCall}
+use Rattle.call.specs.Record.{isFree, active, delivered, divert, invoked, wait, freeCall}
 use Rattle.call.specs.Soundness.{soundCall}
 use Rattle.call.specs.State.{stateForbids}
 use Rattle.call.specs.Incoming.{actIncoming}
 use Rattle.call.specs.Outgoing.{dli1Of, turnsDown, rerouted, cdrIdle, movedOver, withDli3, afterMessage, takenOver, onFirstLeg, messaged, actOutgoing}
 use Rattle.call.specs.Act.{act}
-use Rattle.call.specs.Told.{dli3Of, carriesOver, messageTells, tells, Remembers, Learns, TellsOf}
+use Rattle.call.specs.Told.{dli3Of, latestFirst, carriesOver, waitingOf, messageTells, tells, Remembers, Learns, TellsOf}
 use Rattle.call.proofs.Denials.{denied}
 use Rattle.call.proofs.Sound.{Outgoing, outgoing-of, free-of}
 use Rattle.call.proofs.Made.{Made, opensOutgoing, opensIncoming, opensDiverted, alerts, answers, divertsCall, results, rejects, legFails, clocks, endsOwn, invokes, informs, messages, farEnds, made}
 use Rattle.call.proofs.Kept.{addressed, to-outgoing, act-kept}
-use Rattle.call.proofs.Heard.{Heard, Ranged, none-told, learns-none, diverted-seen, heard-dli1, Flagged, flagged, heard-message, heard-both}
+use Rattle.call.proofs.Heard.{Heard, Ranged, none-told, learns-none, diverted-seen, heard-dli1, Flagged, flagged, heard-message, heard-waits, heard-both}
+use Rattle.call.proofs.Waits.{denied-first, alerts-or-connects, act-waits, act-goes}
 
 -- what an event does that told `new`; an open and a freed record end the list
 record Hears (l new : List Told) (opening : Bool) (x : Effect) : Type 0 where
@@ -40,11 +45,6 @@ record Hears (l new : List Told) (opening : Bool) (x : Effect) : Type 0 where
 message-history : (P : History → Type 0) (e : Event) (c : Call) → P (c .history) → P (afterMessage e c .history)
 message-history P e c p =
     when-has (λ (d : Call). P (d .history)) (alerting e) (λ _. p) (λ _. when-has (λ (d : Call). P (d .history)) (connect e) (λ _. p) (λ _. p))
-
--- what the denial of a conjunction tells of the first
-denied-first : (a b : Bool) → T (not (a && b)) → T b → T (not a)
-denied-first true b n t = absurd (T-not b n t)
-denied-first false b n t = tt
 
 -- two decisions by one test
 when-two : {A B : Type 0} (R : A → B → Type 0) (b : Bool) {x y : A} {u v : B} → (b ≡ true → R x u) → R y v → R (when b then x else y) (when b then u else v)
@@ -58,15 +58,6 @@ not-cfnr (suc zero) a b n = refl
 not-cfnr (suc (suc zero)) a b n = refl
 not-cfnr (suc (suc (suc zero))) a b n = absurd n
 not-cfnr (suc (suc (suc (suc r)))) a b n = absurd (omega (arith, leb→le))
-
--- "message 1 FACILITY, 2 ALERTING, 3 CONNECT, 4 RELEASE COMPLETE": what is neither the first nor the last
-alerts-or-connects : (m : ℕ) → T (leb 1 m) → T (leb m 4) → T (not (eqb m 1)) → T (not (eqb m 4)) → eqb m 2 || eqb m 3 ≡ true
-alerts-or-connects zero a b f n = absurd a
-alerts-or-connects (suc zero) a b f n = absurd f
-alerts-or-connects (suc (suc zero)) a b f n = refl
-alerts-or-connects (suc (suc (suc zero))) a b f n = refl
-alerts-or-connects (suc (suc (suc (suc zero)))) a b f n = absurd n
-alerts-or-connects (suc (suc (suc (suc (suc m))))) a b f n = absurd (omega (arith, leb→le))
 
 -- an effect that tells nothing and leaves the history
 quiet : {l : List Told} {opening : Bool} {c : Call} {sent : Sent} {identifier counter : ℕ} → Remembers l (c .history)
@@ -85,12 +76,11 @@ module _ {l : List Told} (c : Call) (e : Event) (m : Remembers l (c .history)) (
       let u : T ((seen (c .history) && not (active c)) || false) = rw v at (w .divert) in
       diverted-seen m (and-l (seen (c .history)) (not (active c)) (or-left (seen (c .history) && not (active c)) false (λ z. z) u))
 
-  -- "in Invoked also the forwarded party (leg 2), option and reason"
-  waiting-ranged : invoked c ≡ true → Ranged (c .waiting)
-  waiting-ranged i =
+  -- "in Invoked also the forwarded party (leg 2), option and reason", and all that wait
+  waiting-held : invoked c ≡ true → Held (c .waiting)
+  waiting-held i =
       let u = simp i at (w .waiting) in
-      let r : c .waiting .reason ≡ 3 = search (and-l, and-r, eqb→eq) in
-      record { reason = rw r tt; option = search (and-l, and-r) depth 8; number = search (and-l, and-r) depth 8 }
+      held (c .waiting) (and-r (delivered c) (waitsHold (c .waiting)) u)
 
   -- "12: .."
   rerouted-hears : T (reroutingFields e) → Hears l (when carriesOver c e then dli1 (dli1Of e) ∷ [] else []) false (rerouted c e)
@@ -100,10 +90,17 @@ module _ {l : List Told} (c : Call) (e : Event) (m : Remembers l (c .history)) (
       let x = heard-dli1 m (dli1Of e) d in
       let Rule : Effect → Type 0 = Hears l (when carriesOver c e then dli1 (dli1Of e) ∷ [] else []) false in
       let by : Bool = eqb (e .reason) 1 || eqb (e .reason) 2 in
-      when-has Rule (turnsDown c e) (λ t. let z : carriesOver c e ≡ false = rw (is-true (turnsDown c e) t) (and-false by) in rw z (quiet m)) (λ t.
+      let turned-off : T (turnsDown c e) → carriesOver c e ≡ false = λ t.
+      by-cases (invoked c) (λ i. rw (i, and-false by) refl) (λ i.
+      by-cases (active c) (λ y. rw (y, and-false (by && not (invoked c))) refl) (λ y.
+      let r : T (eqb (e .reason) cfnr) = and-l (eqb (e .reason) cfnr) (not (delivered c)) (rw (i, y) at t) in
+      rw (eqb→eq (e .reason) cfnr r) refl)) in
+      when-has Rule (turnsDown c e) (λ t. let z : carriesOver c e ≡ false = turned-off t in rw z (quiet m)) (λ t.
+      when-has Rule (invoked c) (λ i. let z : carriesOver c e ≡ false = rw (is-true (invoked c) i, and-false by) in rw z (quiet m)) (λ i.
       when-has Rule (eqb (e .reason) cfnr) (λ r. let z : carriesOver c e ≡ false = rw (eqb→eq (e .reason) cfnr r) in rw z (quiet m)) (λ r.
-      let z : carriesOver c e ≡ true = rw (is-false (turnsDown c e) t, not-cfnr (e .reason) low (d .reason) r) in
-      rw z (record { learns = x .learns; kept = λ _. x .remembers })))
+      let o : T (not (active c)) = search (nor-l, nor-r) in
+      let z : carriesOver c e ≡ true = rw (is-false (active c) o, is-false (invoked c) i, not-cfnr (e .reason) low (d .reason) r) refl in
+      rw z (record { learns = x .learns; kept = λ _. x .remembers }))))
 
   -- FACILITY, ALERTING or CONNECT on leg 1
   first-hears : Flagged (e .flag) → Hears l (when divert c then dli3Of (e .flag) (e .second) else []) false (onFirstLeg c e)
@@ -121,39 +118,39 @@ module _ {l : List Told} (c : Call) (e : Event) (m : Remembers l (c .history)) (
       }
 
   -- "In Invoked, ALERTING or CONNECT on leg 2"
-  taken-hears : Flagged (e .flag) → invoked c ≡ true → Hears l (dli3Of (e .flag) (e .second) ++ (dli1 (c .waiting) ∷ [])) false (takenOver c e)
+  taken-hears : Flagged (e .flag) → invoked c ≡ true → Hears l (dli3Of (e .flag) (e .second) ++ latestFirst (dli1s (c .waiting))) false (takenOver c e)
   taken-hears g i =
-      let x = heard-both (c .waiting) (e .second) (waiting-ranged i) g m in
-      let P : History → Type 0 = Remembers ((dli3Of (e .flag) (e .second) ++ (dli1 (c .waiting) ∷ [])) ++ l) in
+      let x = heard-both (c .waiting) (e .second) (waiting-held i) g m in
+      let P : History → Type 0 = Remembers ((dli3Of (e .flag) (e .second) ++ latestFirst (dli1s (c .waiting))) ++ l) in
       record { learns = x .learns; kept = λ _. message-history P e (withDli3 (movedOver c) e) (x .remembers) }
 
   -- "14: .."
   messaged-hears : T (messageFields e) → T (not (facility e && onLeg2 e)) → T (not (onLeg2 e && not (invoked c)))
-      → Hears l (messageTells c e) false (messaged c e)
+      → Hears l (messageTells (dli1s (c .waiting)) c e) false (messaged c e)
   messaged-hears f p q =
       let g : Flagged (e .flag) = flagged (e .flag) (search (and-l, and-r) depth 16) in
       let low : T (leb 1 (e .message)) = search (and-l, and-r) depth 16 in
       let high : T (leb (e .message) 4) = search (and-l, and-r) depth 16 in
       let unmarked : T (not (eqb (e .message) 4) || eqb (e .flag) 0) = search (and-l, and-r) depth 16 in
-      let Rule : Effect → Type 0 = Hears l (messageTells c e) false in
+      let Rule : Effect → Type 0 = Hears l (messageTells (dli1s (c .waiting)) c e) false in
       when-has Rule (releaseComplete e)
       (λ r.
       let k : e .message ≡ 4 = eqb→eq (e .message) 4 r in
       let z : e .flag ≡ 0 = eqb→eq (e .flag) 0 (rw k at unmarked) in
-      when-has Rule (onLeg2 e) (λ t. let n : messageTells c e ≡ [] = rw (k, eqb→eq (e .leg) 2 t) in rw n (quiet m)) (λ t.
+      when-has Rule (onLeg2 e) (λ t. let n : messageTells (dli1s (c .waiting)) c e ≡ [] = rw (k, eqb→eq (e .leg) 2 t) in rw n (quiet m)) (λ t.
       when-has Rule (invoked c)
       (λ i.
-      let x = heard-dli1 m (c .waiting) (waiting-ranged (is-true (invoked c) i)) in
-      let n : messageTells c e ≡ dli1 (c .waiting) ∷ [] = rw (k, is-false (onLeg2 e) t, is-true (invoked c) i) in
+      let x = heard-waits (c .waiting) (waiting-held (is-true (invoked c) i)) m in
+      let n : messageTells (dli1s (c .waiting)) c e ≡ latestFirst (dli1s (c .waiting)) = rw (k, is-false (onLeg2 e) t, is-true (invoked c) i) in
       rw n (record { learns = x .learns; kept = λ _. x .remembers }))
       (λ i.
-      let n : messageTells c e ≡ [] = rw (k, z, is-false (onLeg2 e) t, is-false (invoked c) i) (when-has (λ (new : List Told). new ≡ []) (divert c) (λ _. refl) (λ _. refl)) in
+      let n : messageTells (dli1s (c .waiting)) c e ≡ [] = rw (k, z, is-false (onLeg2 e) t, is-false (invoked c) i) (when-has (λ (new : List Told). new ≡ []) (divert c) (λ _. refl) (λ _. refl)) in
       rw n freed)))
       (λ r. when-has Rule (onLeg2 e)
       (λ t.
       let i = is-true (invoked c) (denied (onLeg2 e) (invoked c) q t) in
       let o : T (not (facility e)) = denied-first (facility e) (onLeg2 e) p t in
-      let n : messageTells c e ≡ dli3Of (e .flag) (e .second) ++ (dli1 (c .waiting) ∷ []) =
+      let n : messageTells (dli1s (c .waiting)) c e ≡ dli3Of (e .flag) (e .second) ++ latestFirst (dli1s (c .waiting)) =
       rw (is-true (onLeg2 e) t, alerts-or-connects (e .message) low high o r, i) in
       rw n (taken-hears g i))
       (λ t. rw (is-false (onLeg2 e) t, is-false (releaseComplete e) r) (first-hears g)))
@@ -163,7 +160,7 @@ module _ (last identifier : ℕ) (l : List Told) (c : Call) (e : Event) (h : T (
   as-outgoing : T (ofOutgoing e) → Outgoing c
   as-outgoing t = outgoing-of last c h (to-outgoing c e a t)
 
-  hears : Made e → Hears l (tells c e) (opens e) (act c e identifier)
+  hears : Made e → Hears l (tells (dli1s (c .waiting)) c e) (opens e) (act c e identifier)
   unfolding act actIncoming actOutgoing tells stateForbids
   hears (opensOutgoing k f) = rw k (record { learns = learns-none l; kept = λ z. absurd z })
   hears (opensIncoming k f) = rw k (record { learns = learns-none l; kept = λ z. absurd z })
@@ -193,16 +190,27 @@ unfolding act
 open-history identifier c e t =
     rw (is-true (opens e) t) (when-has (λ (x : Effect). x .call .history ≡ noHistory) (eqb (e .kind) 1) (λ _. refl) (λ _. refl))
 
+-- what an event tells hangs on what waits only in Invoked
+tells-same : (accepted : List Dli1) (c : Call) (e : Event) → waitingOf c ≡ accepted → tells (dli1s (c .waiting)) c e ≡ tells accepted c e
+unfolding tells
+tells-same accepted c e w =
+    by-cases (invoked c)
+    (λ y. rw (rw y at w))
+    (λ n. rw (n, and-false (onLeg2 e && (alerting e || connect e)), and-false (not (onLeg2 e) && releaseComplete e)))
+
 -- an event that a sound record takes
-pub act-told : (last identifier : ℕ) (l : List Told) (c : Call) (e : Event) → T (not (eqb identifier 0)) → T (soundCall last c) → last ≤ e .time
-    → T (wellMade e) → T (addressed c e) → T (not (stateForbids c e)) → Remembers l (c .history) → TellsOf l c e (act c e identifier)
-act-told last identifier l c e z h t f a n m =
+pub act-told : (last identifier : ℕ) (l : List Told) (accepted : List Dli1) (c : Call) (e : Event) → T (not (eqb identifier 0)) → T (soundCall last c)
+    → last ≤ e .time → T (wellMade e) → T (addressed c e) → T (not (stateForbids c e)) → Remembers l (c .history) → waitingOf c ≡ accepted
+    → TellsOf l accepted c e (act c e identifier)
+act-told last identifier l accepted c e z h t f a n m w =
     let d : Call = act c e identifier .call in
-    let x = hears last identifier l c e h a n m (made e f) in
+    let x : Hears l (tells accepted c e) (opens e) (act c e identifier) = rw (tells-same accepted c e w) at (hears last identifier l c e h a n m (made e f)) in
     let empty : T (opens e || isFree d) → d .history ≡ noHistory = λ o.
     by-cases (opens e) (λ y. open-history identifier c e (from-true (opens e) y))
     (λ y. ap (λ (x : Call). x .history) (free-of (e .time) d (act-kept last identifier c e z h t f a n) (or-right (opens e) (isFree d) (T-not (opens e) (from-false (opens e) y)) o))) in
     record {
       learns = x .learns;
       remembers = when-has (λ (z : List Told). Remembers z (d .history)) (opens e || isFree d) (λ o. rw (empty o) none-told) (x .kept);
+      waits = act-waits last identifier accepted c e h a n (made e f) w;
+      goes = act-goes last identifier accepted c e h a n (made e f) w;
     }

@@ -1,102 +1,260 @@
--- An event tells at most one DLI1 and one DLI3, and the DLI1 that waits is that of the invoke that was carried out. Assumes nothing.
-use Prim.Native.Nat.{ℕ}
-use mathlib.Core.Path.{_≡_, refl}
-use mathlib.Core.Bool.{not}
+-- What waits with leg 2 is what was accepted since Invoked began, in order, by the events alone; what is sent goes by it. Assumes nothing.
+use Prim.Native.Nat.{ℕ, zero, suc}
+use mathlib.Core.Path.{_≡_, refl, sym, ap, _∙_}
+use mathlib.Core.Bool.{Bool, true, false, not, _&&_, _||_}
 use mathlib.Core.List.{List, [], _∷_, _++_}
 use native.Mathlib.Omega.{arith}
-use lib.Dec.{T, eqb, T-not}
+use lib.Dec.{T, eqb, leb, ltb, eqb→eq, leb→le, T-not}
+use lib.ListN.{length}
+use borrow.Author.Tests.{eqb-true}
 use Rattle.ground.specs.Choice.{when_then_else_}
-use Rattle.ground.proofs.Bools.{nor-l, nor-r, is-true, is-false, when-has}
+use Rattle.ground.proofs.Bools.{and-l, and-r, and-i, nor-l, nor-r, is-true, is-false, by-cases, from-true, from-false, when-has}
+use Rattle.ground.proofs.Walks.{and-false}
 use Rattle.event.specs.declared.Event.{Event}
-use Rattle.event.specs.Kinds.{cfnr, alerting, connect, releaseComplete, onLeg2}
+use Rattle.event.specs.Kinds.{cfu, cfb, cfnr, facility, alerting, connect, releaseComplete, onLeg2, ofOutgoing}
 use Rattle.notice.specs.declared.Dli1.{Dli1}
-use Rattle.notice.specs.Whole.{Told, dli1, optionsOf, marksOf}
+use Rattle.waits.specs.Waits.{noDli1, dli1s, room, mostWait, lastAfter}
+use Rattle.waits.specs.Soundness.{waitsHold}
+use Rattle.waits.proofs.Laws.{appends}
+use Rattle.waits.proofs.Counted.{room-below}
+use Rattle.waits.proofs.Kept.{held}
 use Rattle.call.specs.declared.Call.{Call}
+use Rattle.call.specs.declared.Sent.{Sent}
 use Rattle.call.specs.declared.Effect.{Effect}
-use Rattle.call.specs.Record.{divert, invoked, wait}
+use Rattle.call.specs.Record.{active, delivered, divert, invoked, wait, forwardedParty}
+use Rattle.call.specs.Soundness.{soundCall}
+use Rattle.call.specs.State.{stateForbids}
 use Rattle.call.specs.Incoming.{actIncoming}
-use Rattle.call.specs.Outgoing.{turnsDown, dli1Of, cdrIdle, withDli3, afterMessage, messaged, actOutgoing}
+use Rattle.call.specs.Outgoing.{goesOn, turnsDown, dli1Of, rerouted, cdrIdle, movedOver, withDli3, afterMessage, messaged, actOutgoing}
 use Rattle.call.specs.Act.{act}
-use Rattle.call.specs.Told.{dli3Of, carriesOver, leg2Answers, leg1Leaves, leg1Informs, tells, Once, TellsOnce, waitsAfter, ActWaits}
+use Rattle.call.specs.Told.{waitingOf, joins, acceptedAfter, handsOver, GoesBy}
+use Rattle.call.proofs.Denials.{denied}
+use Rattle.call.proofs.Sound.{Outgoing, outgoing-of}
+use Rattle.call.proofs.Kept.{addressed, to-outgoing}
 use Rattle.call.proofs.Made.{Made, opensOutgoing, opensIncoming, opensDiverted, alerts, answers, divertsCall, results, rejects, legFails, clocks, endsOwn, invokes, informs, messages, farEnds, made}
 
-none-once : Once []
-unfolding optionsOf marksOf
-none-once = record { dli1s = omega arith; dli3s = omega arith }
+-- an effect that leaves what waits, and one that ends it
+abbrev Stays : Call → Call → Type 0
+Stays c d = waitingOf d ≡ waitingOf c
 
-dli1-once : (d : Dli1) → Once (dli1 d ∷ [])
-unfolding optionsOf marksOf
-dli1-once d = record { dli1s = omega arith; dli3s = omega arith }
-
--- a message's DLI3, alone or after a DLI1
-dli3-once : (flag number : ℕ) → Once (dli3Of flag number)
-unfolding optionsOf marksOf
-dli3-once flag number =
-    when-has Once (eqb flag 1) (λ _. record { dli1s = omega arith; dli3s = omega arith }) (λ _.
-    when-has Once (eqb flag 2) (λ _. record { dli1s = omega arith; dli3s = omega arith }) (λ _. none-once))
-
-both-once : (flag number : ℕ) (d : Dli1) → Once (dli3Of flag number ++ (dli1 d ∷ []))
-unfolding optionsOf marksOf
-both-once flag number d =
-    let P : List Told → Type 0 = λ new. Once (new ++ (dli1 d ∷ [])) in
-    when-has P (eqb flag 1) (λ _. record { dli1s = omega arith; dli3s = omega arith }) (λ _.
-    when-has P (eqb flag 2) (λ _. record { dli1s = omega arith; dli3s = omega arith }) (λ _. dli1-once d))
-
-pub tells-once : TellsOnce
-unfolding tells
-tells-once c e =
-    when-has Once (eqb (e .kind) 12) (λ _. when-has Once (carriesOver c e) (λ _. dli1-once (dli1Of e)) (λ _. none-once)) (λ _.
-    when-has Once (eqb (e .kind) 13) (λ _. dli1-once (dli1Of e)) (λ _.
-    when-has Once (eqb (e .kind) 14) (λ _.
-    when-has Once (leg2Answers c e) (λ _. both-once (e .flag) (e .second) (c .waiting)) (λ _.
-    when-has Once (leg1Leaves c e) (λ _. dli1-once (c .waiting)) (λ _.
-    when-has Once (leg1Informs c e) (λ _. dli3-once (e .flag) (e .second)) (λ _. none-once)))) (λ _. none-once)))
-
--- a record in Invoked has this DLI1
-abbrev Waits : Dli1 → Effect → Type 0
-Waits d x = T (invoked (x .call)) → x .call .waiting ≡ d
+abbrev None : Call → Type 0
+None d = waitingOf d ≡ []
 
 -- what a message does to the state leaves what waits
-message-waits : (d : Dli1) (e : Event) (c : Call) → (T (invoked c) → c .waiting ≡ d) → T (invoked (afterMessage e c)) → afterMessage e c .waiting ≡ d
-message-waits d e c p =
-    let P : Call → Type 0 = λ c. T (invoked c) → c .waiting ≡ d in
-    when-has P (alerting e) (λ _. p) (λ _. when-has P (connect e) (λ _. p) (λ _. p))
+message-has : (P : List Dli1 → Type 0) (e : Event) (d : Call) → P (waitingOf d) → P (waitingOf (afterMessage e d))
+message-has P e d p =
+    when-has (λ (x : Call). P (waitingOf x)) (alerting e) (λ _. p) (λ _. when-has (λ (x : Call). P (waitingOf x)) (connect e) (λ _. p) (λ _. p))
 
-dli3-waits : (d : Dli1) (e : Event) (c : Call) → (T (invoked c) → c .waiting ≡ d) → T (invoked (withDli3 c e)) → withDli3 c e .waiting ≡ d
-dli3-waits d e c p = when-has (λ (c : Call). T (invoked c) → c .waiting ≡ d) (divert c) (λ _. p) (λ _. p)
+dli3-has : (P : List Dli1 → Type 0) (e : Event) (d : Call) → P (waitingOf d) → P (waitingOf (withDli3 d e))
+dli3-has P e d p = when-has (λ (x : Call). P (waitingOf x)) (divert d) (λ _. p) (λ _. p)
 
-messaged-waits : (c : Call) (e : Event) → Waits (c .waiting) (messaged c e)
-messaged-waits c e =
-    let P : Effect → Type 0 = Waits (c .waiting) in
-    let Q : Call → Type 0 = λ d. T (invoked (afterMessage e (withDli3 d e))) → afterMessage e (withDli3 d e) .waiting ≡ c .waiting in
-    when-has P (releaseComplete e)
-    (λ _. when-has P (onLeg2 e) (λ _ i. absurd i) (λ _. when-has P (invoked c) (λ _ i. absurd i) (λ _ i. absurd i)))
-    (λ _. when-has P (onLeg2 e)
-    (λ _. message-waits (c .waiting) e _ (λ i. absurd i))
-    (λ _. when-has Q (connect e)
-    (λ _. message-waits (c .waiting) e (withDli3 (cdrIdle c) e) (dli3-waits (c .waiting) e (cdrIdle c) (λ i. absurd i)))
-    (λ _. message-waits (c .waiting) e (withDli3 c e) (dli3-waits (c .waiting) e c (λ _. refl)))))
+-- what the denial of a conjunction tells of the first
+pub denied-first : (a b : Bool) → T (not (a && b)) → T b → T (not a)
+denied-first true b n t = absurd (T-not b n t)
+denied-first false b n t = tt
 
-waits : (identifier : ℕ) (c : Call) (e : Event) → Made e → Waits (waitsAfter c e) (act c e identifier)
-unfolding act actIncoming actOutgoing
-waits identifier c e (opensOutgoing k f) = rw k (λ i. absurd i)
-waits identifier c e (opensIncoming k f) = rw k (λ i. absurd i)
-waits identifier c e (opensDiverted k f) = rw k (λ i. absurd i)
-waits identifier c e (alerts k f) = rw k (λ _. refl)
-waits identifier c e (answers k f) = rw k (when-has (Waits (c .waiting)) (wait c) (λ _ _. refl) (λ _ _. refl))
-waits identifier c e (divertsCall k f) = rw k (λ _. refl)
-waits identifier c e (results k f) = rw k (λ _. refl)
-waits identifier c e (rejects k f) = rw k (λ _. refl)
-waits identifier c e (legFails k f) = rw k (λ _. refl)
-waits identifier c e (clocks k f) = rw k (λ _. refl)
-waits identifier c e (endsOwn k f) = rw k (when-has (Waits (c .waiting)) (invoked c) (λ _ i. absurd i) (λ _ i. absurd i))
-waits identifier c e (invokes k f) =
-    let P : Effect → Type 0 = Waits (when not (turnsDown c e) then dli1Of e else c .waiting) in
-    rw k (when-has P (turnsDown c e) (λ t i. rw (is-true (turnsDown c e) t)) (λ t.
-    when-has P (eqb (e .reason) cfnr) (λ r i. rw (is-false (turnsDown c e) t)) (λ r i. let n : T (not (invoked c)) = search (nor-l, nor-r) in absurd (T-not (invoked c) n i))))
-waits identifier c e (informs k f) = rw k (λ _. refl)
-waits identifier c e (messages k f) = rw k (messaged-waits c e)
-waits identifier c e (farEnds k f) = rw k (λ i. absurd i)
+-- "message 1 FACILITY, 2 ALERTING, 3 CONNECT, 4 RELEASE COMPLETE": what is neither the first nor the last
+pub alerts-or-connects : (m : ℕ) → T (leb 1 m) → T (leb m 4) → T (not (eqb m 1)) → T (not (eqb m 4)) → eqb m 2 || eqb m 3 ≡ true
+alerts-or-connects zero a b f n = absurd a
+alerts-or-connects (suc zero) a b f n = absurd f
+alerts-or-connects (suc (suc zero)) a b f n = refl
+alerts-or-connects (suc (suc (suc zero))) a b f n = refl
+alerts-or-connects (suc (suc (suc (suc zero)))) a b f n = absurd n
+alerts-or-connects (suc (suc (suc (suc (suc m))))) a b f n = absurd (omega (arith, leb→le))
 
-pub act-waits : ActWaits
-act-waits identifier c e f = waits identifier c e (made e f)
+module _ (c : Call) (e : Event) (w : Outgoing c) where
+  -- "CDR is Invoked only in Delivered"
+  in-delivered : invoked c ≡ true → delivered c ≡ true
+  in-delivered i = is-true (delivered c) (and-l (delivered c) (waitsHold (c .waiting)) (simp i at (w .waiting)))
+
+  not-active : delivered c ≡ true → active c ≡ false
+  not-active d = let b : c .basic ≡ 2 = eqb-true (c .basic) 2 d in rw b refl
+
+  -- in Invoked an invoke's DLI1 begins to wait exactly where it goes on
+  joins-on : invoked c ≡ true → e .kind ≡ 12 → joins (waitingOf c) c e ≡ goesOn c e
+  unfolding room
+  joins-on i k = rw (k, i) refl
+
+  joins-first : invoked c ≡ false → e .kind ≡ 12 → joins (waitingOf c) c e ≡ eqb (e .reason) cfnr && delivered c
+  joins-first i k = rw (k, i) refl
+
+  cfnr-not : goesOn c e ≡ true → eqb (e .reason) cfnr ≡ false
+  cfnr-not g =
+      let a = from-true (goesOn c e) g in
+      let t : T (eqb (e .reason) cfu || eqb (e .reason) cfb) = search (and-l, and-r) in
+      by-cases (eqb (e .reason) cfnr) (λ y. absurd (rw (eqb-true (e .reason) cfnr y) at t)) (λ n. n)
+
+  -- an invoke is turned down in Invoked exactly where its DLI1 does not begin to wait
+  turned-on : invoked c ≡ true → turnsDown c e ≡ not (goesOn c e)
+  turned-on i =
+      let d = in-delivered i in
+      by-cases (goesOn c e)
+      (λ g. rw (i, g, not-active d, cfnr-not g) refl)
+      (λ g. rw (i, g) refl)
+
+  turned-first : invoked c ≡ false → T (turnsDown c e) → eqb (e .reason) cfnr && delivered c ≡ false
+  turned-first i t =
+      by-cases (eqb (e .reason) cfnr)
+      (λ y. by-cases (delivered c) (λ d. absurd (rw (i, y, d, not-active d) at t)) (λ d. rw (y, d) refl))
+      (λ n. rw n refl)
+
+  rerouted-waits : e .kind ≡ 12 → waitingOf (rerouted c e .call) ≡ (when joins (waitingOf c) c e then waitingOf c ++ (dli1Of e ∷ []) else waitingOf c)
+  rerouted-waits k =
+      let P : Effect → Type 0 = λ x. waitingOf (x .call) ≡ (when joins (waitingOf c) c e then waitingOf c ++ (dli1Of e ∷ []) else waitingOf c) in
+      when-has P (turnsDown c e)
+      (λ t. by-cases (invoked c)
+      (λ i. let g : goesOn c e ≡ false = is-false (goesOn c e) (rw (turned-on i) at t) in rw (joins-on i k, g) refl)
+      (λ i. rw (joins-first i k, turned-first i t) refl))
+      (λ t.
+      let o : T (not (invoked c && not (goesOn c e))) = search (nor-l, nor-r) in
+      let m : T (not (eqb (e .reason) cfnr && not (delivered c))) = search nor-r in
+      when-has P (invoked c)
+      (λ y.
+      let i = is-true (invoked c) y in
+      let g : T (goesOn c e) = denied (invoked c) (goesOn c e) o y in
+      let h = held (c .waiting) (and-r (delivered c) (waitsHold (c .waiting)) (simp i at (w .waiting))) in
+      let b = room-below (c .waiting) (h .places) (search (and-l, and-r)) in
+      let l = h .places in
+      rw (joins-on i k, is-true (goesOn c e) g, i) (appends (c .waiting) (dli1Of e) (omega (arith, b, l))))
+      (λ n.
+      let i = is-false (invoked c) n in
+      when-has P (eqb (e .reason) cfnr)
+      (λ r. rw (joins-first i k, is-true (eqb (e .reason) cfnr) r, is-true (delivered c) (denied (eqb (e .reason) cfnr) (delivered c) m r), i) refl)
+      (λ r. rw (joins-first i k, is-false (eqb (e .reason) cfnr) r, i) refl)))
+
+  -- "14: .." what a message leaves: FACILITY on leg 2 is not taken, and leg 2 needs Invoked
+  messaged-waits : e .kind ≡ 14 → T (not (facility e && onLeg2 e)) → T (leb 1 (e .message)) → T (leb (e .message) 4) → (T (onLeg2 e) → T (invoked c))
+      → waitingOf (messaged c e .call) ≡ acceptedAfter (waitingOf c) c e
+  messaged-waits k f low high two =
+      let P : Effect → Type 0 = λ x. waitingOf (x .call) ≡ acceptedAfter (waitingOf c) c e in
+      when-has P (releaseComplete e)
+      (λ r.
+      let q : e .message ≡ 4 = eqb→eq (e .message) 4 r in
+      when-has P (onLeg2 e) (λ t. rw (k, q, is-true (onLeg2 e) t) refl) (λ t.
+      when-has P (invoked c) (λ i. rw (k, q, is-false (onLeg2 e) t, is-true (invoked c) i) refl) (λ i. rw (k, q, is-false (onLeg2 e) t, is-false (invoked c) i) refl)))
+      (λ r. when-has P (onLeg2 e)
+      (λ t.
+      let i = is-true (invoked c) (two t) in
+      let o : T (not (facility e)) = denied-first (facility e) (onLeg2 e) f t in
+      let a = alerts-or-connects (e .message) low high o r in
+      let n : acceptedAfter (waitingOf c) c e ≡ [] = rw (k, is-true (onLeg2 e) t, a, i) refl in
+      rw n (message-has (λ (l : List Dli1). l ≡ []) e (withDli3 (movedOver c) e) (dli3-has (λ (l : List Dli1). l ≡ []) e (movedOver c) refl)))
+      (λ t.
+      let l = is-false (onLeg2 e) t in
+      let s = is-false (releaseComplete e) r in
+      when-has (λ (d : Call). waitingOf (afterMessage e (withDli3 d e)) ≡ acceptedAfter (waitingOf c) c e) (connect e)
+      (λ y.
+      let n : acceptedAfter (waitingOf c) c e ≡ [] = rw (k, l, s, is-true (connect e) y) refl in
+      rw n (message-has (λ (m : List Dli1). m ≡ []) e (withDli3 (cdrIdle c) e) (dli3-has (λ (m : List Dli1). m ≡ []) e (cdrIdle c) refl)))
+      (λ y.
+      let n : acceptedAfter (waitingOf c) c e ≡ waitingOf c = rw (k, l, s, is-false (connect e) y) refl in
+      rw n (message-has (λ (m : List Dli1). m ≡ waitingOf c) e (withDli3 c e) (dli3-has (λ (m : List Dli1). m ≡ waitingOf c) e c refl)))))
+
+  -- "C's number": in Invoked leg 2's party is the last accepted number
+  party-of : invoked c ≡ true → forwardedParty c ≡ lastAfter noDli1 (waitingOf c)
+  unfolding lastAfter
+  party-of i = rw i refl
+
+  rerouted-goes : e .kind ≡ 12 → GoesBy (waitingOf c) c e (rerouted c e .sent) (rerouted c e .call)
+  unfolding lastAfter
+  rerouted-goes k = record {
+    accepts = λ y j.
+        let i = is-true (invoked c) y in
+        let g : goesOn c e ≡ true = is-true (goesOn c e) (rw (joins-on i k) at j) in
+        let t : turnsDown c e ≡ false = turned-on i ∙ ap not g in
+        rw (t, i) refl;
+    denies = λ y q j.
+        let i = is-true (invoked c) y in
+        let g : goesOn c e ≡ false = is-false (goesOn c e) (rw (joins-on i k) at j) in
+        let t : turnsDown c e ≡ true = turned-on i ∙ ap not g in
+        (rw t refl, rw t refl);
+    party = λ h. absurd (rw k at h);
+  }
+
+  -- what a message does to the state leaves the party
+  party-has : (n : ℕ) (d : Call) → d .party ≡ n → afterMessage e (withDli3 d e) .party ≡ n
+  party-has n d p =
+      let P : Call → Type 0 = λ x. x .party ≡ n in
+      let q : P (withDli3 d e) = when-has P (divert d) (λ _. p) (λ _. p) in
+      when-has P (alerting e) (λ _. q) (λ _. when-has P (connect e) (λ _. q) (λ _. q))
+
+  messaged-party : e .kind ≡ 14 → T (handsOver c e) → messaged c e .call .party ≡ lastAfter noDli1 (waitingOf c)
+  messaged-party k h =
+      let P : Effect → Type 0 = λ x. x .call .party ≡ lastAfter noDli1 (waitingOf c) in
+      when-has P (releaseComplete e)
+      (λ r.
+      let q : e .message ≡ 4 = eqb→eq (e .message) 4 r in
+      when-has P (onLeg2 e) (λ t. absurd (rw (k, q, is-true (onLeg2 e) t) at h)) (λ t.
+      when-has P (invoked c) (λ i. party-of (is-true (invoked c) i)) (λ i. absurd (rw (k, q, is-false (onLeg2 e) t, is-false (invoked c) i) at h))))
+      (λ r. when-has P (onLeg2 e)
+      (λ t. by-cases (invoked c)
+      (λ i. party-has (lastAfter noDli1 (waitingOf c)) (movedOver c) (party-of i))
+      (λ i. absurd (rw (k, is-true (onLeg2 e) t, i, and-false (alerting e || connect e)) at h)))
+      (λ t. absurd (rw (k, is-false (onLeg2 e) t, is-false (releaseComplete e) r) at h)))
+
+-- an event that neither is an invoke nor hands over
+elsewhere : {accepted : List Dli1} {c d : Call} {e : Event} {sent : Sent} → joins accepted c e ≡ false → (e .kind ≡ 12 → ⊥) → handsOver c e ≡ false
+    → GoesBy accepted c e sent d
+elsewhere j k h = record { accepts = λ i t. absurd (rw j at t); denies = λ i q. absurd (k q); party = λ t. absurd (rw h at t) }
+
+module _ (last identifier : ℕ) (c : Call) (e : Event) (h : T (soundCall last c)) (a : T (addressed c e)) (n : T (not (stateForbids c e))) where
+  outgoing-here : T (ofOutgoing e) → Outgoing c
+  outgoing-here t = outgoing-of last c h (to-outgoing c e a t)
+
+  waits : Made e → waitingOf (act c e identifier .call) ≡ acceptedAfter (waitingOf c) c e
+  unfolding act actIncoming actOutgoing stateForbids
+  waits (opensOutgoing k f) = rw k refl
+  waits (opensIncoming k f) = rw k refl
+  waits (opensDiverted k f) = rw k refl
+  waits (alerts k f) = rw k refl
+  waits (answers k f) = rw k (when-has (λ (x : Effect). waitingOf (x .call) ≡ waitingOf c) (wait c) (λ _. refl) (λ _. refl))
+  waits (divertsCall k f) = rw k refl
+  waits (results k f) = rw k refl
+  waits (rejects k f) = rw k refl
+  waits (legFails k f) = rw k refl
+  waits (clocks k f) = rw k refl
+  waits (endsOwn k f) = rw k (when-has (λ (x : Effect). waitingOf (x .call) ≡ []) (invoked c) (λ _. refl) (λ _. refl))
+  waits (invokes k f) = rw k (rw k at (rerouted-waits c e (outgoing-here (rw k tt)) k))
+  waits (informs k f) = rw k refl
+  waits (messages k f) =
+      let u : T (not (((facility e && onLeg2 e) || (active c && not (releaseComplete e)))
+      || ((onLeg2 e && not (invoked c)) || (facility e && not (divert c))))) = rw k at n in
+      let q : T (not (onLeg2 e && not (invoked c))) = search (nor-l, nor-r) depth 8 in
+      let low : T (leb 1 (e .message)) = search (and-l, and-r) depth 16 in
+      let high : T (leb (e .message) 4) = search (and-l, and-r) depth 16 in
+      rw k (rw k at (messaged-waits c e (outgoing-here (rw k tt)) k (search (nor-l, nor-r) depth 8) low high (denied (onLeg2 e) (invoked c) q)))
+  waits (farEnds k f) = rw k refl
+
+  goes : Made e → GoesBy (waitingOf c) c e (act c e identifier .sent) (act c e identifier .call)
+  unfolding act actIncoming actOutgoing
+  goes (opensOutgoing k f) = elsewhere (rw k refl) (λ q. omega (arith, k, q)) (rw k refl)
+  goes (opensIncoming k f) = elsewhere (rw k refl) (λ q. omega (arith, k, q)) (rw k refl)
+  goes (opensDiverted k f) = elsewhere (rw k refl) (λ q. omega (arith, k, q)) (rw k refl)
+  goes (alerts k f) = elsewhere (rw k refl) (λ q. omega (arith, k, q)) (rw k refl)
+  goes (answers k f) = elsewhere (rw k refl) (λ q. omega (arith, k, q)) (rw k refl)
+  goes (divertsCall k f) = elsewhere (rw k refl) (λ q. omega (arith, k, q)) (rw k refl)
+  goes (results k f) = elsewhere (rw k refl) (λ q. omega (arith, k, q)) (rw k refl)
+  goes (rejects k f) = elsewhere (rw k refl) (λ q. omega (arith, k, q)) (rw k refl)
+  goes (legFails k f) = elsewhere (rw k refl) (λ q. omega (arith, k, q)) (rw k refl)
+  goes (clocks k f) = elsewhere (rw k refl) (λ q. omega (arith, k, q)) (rw k refl)
+  goes (endsOwn k f) = elsewhere (rw k refl) (λ q. omega (arith, k, q)) (rw k refl)
+  goes (invokes k f) =
+      let q : act c e identifier ≡ rerouted c e = rw k refl in
+      rw q (rerouted-goes c e (outgoing-here (rw k tt)) k)
+  goes (informs k f) = elsewhere (rw k refl) (λ q. omega (arith, k, q)) (rw k refl)
+  goes (messages k f) =
+      let q : act c e identifier ≡ messaged c e = rw k refl in
+      rw q (record {
+        accepts = λ i j. absurd (rw k at j);
+        denies = λ i z. absurd (omega (arith, k, z));
+        party = messaged-party c e (outgoing-here (rw k tt)) k;
+      })
+  goes (farEnds k f) = elsewhere (rw k refl) (λ q. omega (arith, k, q)) (rw k refl)
+
+pub act-waits : (last identifier : ℕ) (accepted : List Dli1) (c : Call) (e : Event) → T (soundCall last c) → T (addressed c e) → T (not (stateForbids c e)) → Made e
+    → waitingOf c ≡ accepted → waitingOf (act c e identifier .call) ≡ acceptedAfter accepted c e
+act-waits last identifier accepted c e h a n m w = waits last identifier c e h a n m ∙ ap (λ l. acceptedAfter l c e) w
+
+pub act-goes : (last identifier : ℕ) (accepted : List Dli1) (c : Call) (e : Event) → T (soundCall last c) → T (addressed c e) → T (not (stateForbids c e)) → Made e
+    → waitingOf c ≡ accepted → GoesBy accepted c e (act c e identifier .sent) (act c e identifier .call)
+act-goes last identifier accepted c e h a n m w = rw (← w) (goes last identifier c e h a n m)

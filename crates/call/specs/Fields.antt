@@ -1,7 +1,7 @@
 -- A record with one field changed: antt has no record update.
 use Prim.Native.Nat.{ℕ}
-use Rattle.notice.specs.declared.Dli1.{Dli1}
 use Rattle.notice.specs.declared.History.{History}
+use Rattle.waits.specs.declared.Waits.{Waits}
 use Rattle.call.specs.declared.Call.{Call}
 
 abbrev pub basic-is : ℕ → Call → Call
@@ -14,15 +14,15 @@ basic-is x c = record {
   cdf = c .cdf;
   granted = c .granted;
   counter = c .counter;
+  start = c .start;
   party = c .party;
-  waiting = c .waiting;
   history = c .history;
   own = c .own;
   diverting = c .diverting;
   original = c .original;
   identifier = c .identifier;
   reason = c .reason;
-  start = c .start;
+  waiting = c .waiting;
 }
 
 abbrev pub cdo-is : ℕ → Call → Call
@@ -35,15 +35,15 @@ cdo-is x c = record {
   cdf = c .cdf;
   granted = c .granted;
   counter = c .counter;
+  start = c .start;
   party = c .party;
-  waiting = c .waiting;
   history = c .history;
   own = c .own;
   diverting = c .diverting;
   original = c .original;
   identifier = c .identifier;
   reason = c .reason;
-  start = c .start;
+  waiting = c .waiting;
 }
 
 abbrev pub cdr-is : ℕ → Call → Call
@@ -56,15 +56,15 @@ cdr-is x c = record {
   cdf = c .cdf;
   granted = c .granted;
   counter = c .counter;
+  start = c .start;
   party = c .party;
-  waiting = c .waiting;
   history = c .history;
   own = c .own;
   diverting = c .diverting;
   original = c .original;
   identifier = c .identifier;
   reason = c .reason;
-  start = c .start;
+  waiting = c .waiting;
 }
 
 abbrev pub cds-is : ℕ → Call → Call
@@ -77,15 +77,15 @@ cds-is x c = record {
   cdf = c .cdf;
   granted = c .granted;
   counter = c .counter;
+  start = c .start;
   party = c .party;
-  waiting = c .waiting;
   history = c .history;
   own = c .own;
   diverting = c .diverting;
   original = c .original;
   identifier = c .identifier;
   reason = c .reason;
-  start = c .start;
+  waiting = c .waiting;
 }
 
 abbrev pub cdf-is : ℕ → Call → Call
@@ -98,15 +98,15 @@ cdf-is x c = record {
   cdf = x;
   granted = c .granted;
   counter = c .counter;
+  start = c .start;
   party = c .party;
-  waiting = c .waiting;
   history = c .history;
   own = c .own;
   diverting = c .diverting;
   original = c .original;
   identifier = c .identifier;
   reason = c .reason;
-  start = c .start;
+  waiting = c .waiting;
 }
 
 abbrev pub granted-is : ℕ → Call → Call
@@ -119,15 +119,15 @@ granted-is x c = record {
   cdf = c .cdf;
   granted = x;
   counter = c .counter;
+  start = c .start;
   party = c .party;
-  waiting = c .waiting;
   history = c .history;
   own = c .own;
   diverting = c .diverting;
   original = c .original;
   identifier = c .identifier;
   reason = c .reason;
-  start = c .start;
+  waiting = c .waiting;
 }
 
 abbrev pub party-is : ℕ → Call → Call
@@ -140,18 +140,18 @@ party-is x c = record {
   cdf = c .cdf;
   granted = c .granted;
   counter = c .counter;
+  start = c .start;
   party = x;
-  waiting = c .waiting;
   history = c .history;
   own = c .own;
   diverting = c .diverting;
   original = c .original;
   identifier = c .identifier;
   reason = c .reason;
-  start = c .start;
+  waiting = c .waiting;
 }
 
-abbrev pub waiting-is : Dli1 → Call → Call
+abbrev pub waiting-is : Waits → Call → Call
 waiting-is x c = record {
   direction = c .direction;
   basic = c .basic;
@@ -161,15 +161,15 @@ waiting-is x c = record {
   cdf = c .cdf;
   granted = c .granted;
   counter = c .counter;
+  start = c .start;
   party = c .party;
-  waiting = x;
   history = c .history;
   own = c .own;
   diverting = c .diverting;
   original = c .original;
   identifier = c .identifier;
   reason = c .reason;
-  start = c .start;
+  waiting = x;
 }
 
 abbrev pub history-is : History → Call → Call
@@ -182,15 +182,15 @@ history-is x c = record {
   cdf = c .cdf;
   granted = c .granted;
   counter = c .counter;
+  start = c .start;
   party = c .party;
-  waiting = c .waiting;
   history = x;
   own = c .own;
   diverting = c .diverting;
   original = c .original;
   identifier = c .identifier;
   reason = c .reason;
-  start = c .start;
+  waiting = c .waiting;
 }
 
 abbrev pub identifier-is : ℕ → Call → Call
@@ -203,15 +203,15 @@ identifier-is x c = record {
   cdf = c .cdf;
   granted = c .granted;
   counter = c .counter;
+  start = c .start;
   party = c .party;
-  waiting = c .waiting;
   history = c .history;
   own = c .own;
   diverting = c .diverting;
   original = c .original;
   identifier = x;
   reason = c .reason;
-  start = c .start;
+  waiting = c .waiting;
 }
 
 abbrev pub reason-is : ℕ → Call → Call
@@ -224,15 +224,15 @@ reason-is x c = record {
   cdf = c .cdf;
   granted = c .granted;
   counter = c .counter;
+  start = c .start;
   party = c .party;
-  waiting = c .waiting;
   history = c .history;
   own = c .own;
   diverting = c .diverting;
   original = c .original;
   identifier = c .identifier;
   reason = x;
-  start = c .start;
+  waiting = c .waiting;
 }
 
 abbrev pub start-is : ℕ → Call → Call
@@ -245,13 +245,13 @@ start-is x c = record {
   cdf = c .cdf;
   granted = c .granted;
   counter = c .counter;
+  start = x;
   party = c .party;
-  waiting = c .waiting;
   history = c .history;
   own = c .own;
   diverting = c .diverting;
   original = c .original;
   identifier = c .identifier;
   reason = c .reason;
-  start = x;
+  waiting = c .waiting;
 }

@@ -6,10 +6,11 @@ use Rattle.ground.specs.Choice.{when_then_else_}
 use Rattle.event.specs.declared.Event.{Event}
 use Rattle.event.specs.Kinds.{allowed, OpenWithDli2, UserAlerted, UserAnswers, DivertCall, ReroutingResult, ReroutingError, DivertedLegFailed}
 use Rattle.notice.specs.Notice.{noNotice, noNumber, unmarked, marked, noHistory}
+use Rattle.waits.specs.Waits.{noWaits}
 use Rattle.call.specs.declared.Call.{Call}
 use Rattle.call.specs.declared.Message.{Message}
 use Rattle.call.specs.declared.Effect.{Effect}
-use Rattle.call.specs.Record.{incoming, Proceeding, Received, Active, Idle, Requested, CdfNone, Wait, CdfDone, requested, wait, undiverted, noDli1, freeCall}
+use Rattle.call.specs.Record.{incoming, Proceeding, Received, Active, Idle, Requested, CdfNone, Wait, CdfDone, requested, wait, undiverted, freeCall}
 use Rattle.call.specs.Fields.{basic-is, cds-is, cdf-is, granted-is, identifier-is, reason-is, start-is}
 use Rattle.call.specs.Messages.{noCounter, letterI, alertingOn, connectOn, connectWithDli3, one, nothing, sending, silent}
 
@@ -25,15 +26,15 @@ openedIncoming e = record {
   cdf = when eqb (e .kind) OpenWithDli2 then Wait else CdfNone;
   granted = unmarked;
   counter = e .counter;
+  start = 0;
   party = 0;
-  waiting = noDli1;
   history = noHistory;
   own = e .first;
   diverting = e .second;
   original = e .third;
   identifier = 0;
   reason = 0;
-  start = 0;
+  waiting = noWaits;
 }
 
 -- "4: Proceeding becomes Received, ALERTING."

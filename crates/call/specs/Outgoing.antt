@@ -4,16 +4,17 @@ use mathlib.Core.Bool.{Bool, _&&_, _||_, not}
 use lib.Dec.{eqb}
 use Rattle.ground.specs.Choice.{when_then_else_}
 use Rattle.event.specs.declared.Event.{Event}
-use Rattle.event.specs.Kinds.{cfnr, alerting, connect, releaseComplete, onLeg2, ReroutingInvoke, Dli1Received}
+use Rattle.event.specs.Kinds.{cfu, cfb, cfnr, alerting, connect, releaseComplete, onLeg2, ReroutingInvoke, Dli1Received}
 use Rattle.notice.specs.declared.Dli1.{Dli1}
 use Rattle.notice.specs.declared.History.{History}
 use Rattle.notice.specs.declared.Noticed.{Noticed}
 use Rattle.notice.specs.Notice.{noNotice, noNumber, noHistory, takeDli1, afterDli3, numberShown}
+use Rattle.waits.specs.Waits.{noWaits, waitsFor, dli1s, waitsWith, room, takeAll}
 use Rattle.call.specs.declared.Call.{Call}
 use Rattle.call.specs.declared.Message.{Message}
 use Rattle.call.specs.declared.Sent.{Sent}
 use Rattle.call.specs.declared.Effect.{Effect}
-use Rattle.call.specs.Record.{outgoing, Proceeding, Delivered, Active, Idle, Divert, Invoked, active, delivered, divert, invoked, noDli1, freeCall, forwardedParty}
+use Rattle.call.specs.Record.{outgoing, Proceeding, Delivered, Active, Idle, Divert, Invoked, active, delivered, divert, invoked, freeCall, forwardedParty}
 use Rattle.call.specs.Fields.{basic-is, cdo-is, cdr-is, party-is, waiting-is, history-is}
 use Rattle.call.specs.Messages.{noIdentifier, noCounter, letterS, releaseOn, legFailedOn, resultOn, errorOn, nothing, one, two, three, sending, silent}
 
@@ -28,15 +29,15 @@ openedOutgoing e = record {
   cdf = 0;
   granted = 0;
   counter = 0;
+  start = 0;
   party = e .first;
-  waiting = noDli1;
   history = noHistory;
   own = 0;
   diverting = 0;
   original = 0;
   identifier = 0;
   reason = 0;
-  start = 0;
+  waiting = noWaits;
 }
 
 -- "DLI1 (reason, option, destination)", "second: nominated number"
@@ -48,9 +49,9 @@ abbrev pub toCdo : Noticed → Call → Call
 toCdo n c = cdo-is Divert (history-is (n .history) c)
 
 -- "SETUP with DLI2 to the destination": "DLI2 holds counter, reason, the leg 1 party before the event as diverting number,
--- and the original called number received."
-abbrev pub setupOn : ℕ → Call → Event → Message
-setupOn leg c e = record {
+-- and the original called number received."; document 02, Six: "C's number as diverting number"
+abbrev pub setupOn : ℕ → ℕ → Event → Message
+setupOn leg diverting e = record {
   letter = letterS;
   leg = leg;
   reason = e .reason;
@@ -59,14 +60,19 @@ setupOn leg c e = record {
   flag = 0;
   identifier = 0;
   destination = e .second;
-  diverting = c .party;
+  diverting = diverting;
   original = e .third;
   number = 0;
 }
 
--- "CDR Invoked, Active, or cfnr outside Delivered: return error on that leg"
+-- document 02, Six: "fitter C has cfu or cfb set and sends a callRerouting invoke on leg 2. .. Up to 15 may wait"
+abbrev pub goesOn : Call → Event → Bool
+goesOn c e = onLeg2 e && (eqb (e .reason) cfu || eqb (e .reason) cfb) && room (c .waiting)
+
+-- "CDR Invoked, Active, or cfnr outside Delivered: return error on that leg"; document 02, Six: "In Invoked, such an invoke shall be
+-- accepted .. A cfnr invoke on leg 2, a sixteenth wait, or any invoke on leg 1 in Invoked still gets the return error."
 abbrev pub turnsDown : Call → Event → Bool
-turnsDown c e = invoked c || active c || (eqb (e .reason) cfnr && not (delivered c))
+turnsDown c e = (invoked c && not (goesOn c e)) || active c || (eqb (e .reason) cfnr && not (delivered c))
 
 -- ".. the record stays (ours)"
 abbrev pub turnedDown : Call → Event → Effect
@@ -84,7 +90,7 @@ turnedDown c e = record {
 abbrev pub redirected : Call → Event → Effect
 redirected c e = record {
   call = basic-is Proceeding (party-is (e .second) (toCdo (takeDli1 (c .history) (dli1Of e)) c));
-  sent = three (resultOn 1 (e .identifier)) (releaseOn 1) (setupOn 1 c e);
+  sent = three (resultOn 1 (e .identifier)) (releaseOn 1) (setupOn 1 (c .party) e);
   notice = takeDli1 (c .history) (dli1Of e) .notice;
   number = noNumber;
   identifier = e .identifier;
@@ -94,8 +100,20 @@ redirected c e = record {
 -- "Else cfnr: return result on leg 1, SETUP with DLI2 on leg 2, Invoked."
 abbrev pub forwarded : Call → Event → Effect
 forwarded c e = record {
-  call = cdr-is Invoked (waiting-is (dli1Of e) c);
-  sent = two (resultOn 1 (e .identifier)) (setupOn 2 c e);
+  call = cdr-is Invoked (waiting-is (waitsFor (dli1Of e)) c);
+  sent = two (resultOn 1 (e .identifier)) (setupOn 2 (c .party) e);
+  notice = noNotice;
+  number = noNumber;
+  identifier = e .identifier;
+  counter = e .counter;
+}
+
+-- document 02, Six: "result and RELEASE COMPLETE on leg 2, SETUP with DLI2 (its counter, C's number as diverting number) to the new
+-- destination, now leg 2. Each waiting DLI1 is kept"
+abbrev pub forwardedOn : Call → Event → Effect
+forwardedOn c e = record {
+  call = waiting-is (waitsWith (c .waiting) (dli1Of e)) c;
+  sent = three (resultOn 2 (e .identifier)) (releaseOn 2) (setupOn 2 (forwardedParty c) e);
   notice = noNotice;
   number = noNumber;
   identifier = e .identifier;
@@ -106,6 +124,7 @@ forwarded c e = record {
 abbrev pub rerouted : Call → Event → Effect
 rerouted c e =
     when turnsDown c e then turnedDown c e else
+    when invoked c then forwardedOn c e else
     when eqb (e .reason) cfnr then forwarded c e else
     redirected c e
 
@@ -120,13 +139,14 @@ informed c e = record {
   counter = noCounter;
 }
 
--- what waits in Invoked reaches the CDO
+-- what waits in Invoked reaches the CDO: document 02, Six: "all are handed to the own CDO in order when leg 2 alerts, connects, or is
+-- left alone by a release of leg 1"
 abbrev pub handOver : Call → Noticed
-handOver c = takeDli1 (c .history) (c .waiting)
+handOver c = takeAll (c .history) (dli1s (c .waiting))
 
--- "CDR Idle": nothing waits any more
+-- "CDR Idle": nothing waits any more; document 02, Six: "If leg 2 is released, leg 1 connects or the call ends, the waiting ones are dropped."
 abbrev pub cdrIdle : Call → Call
-cdrIdle c = cdr-is Idle (waiting-is noDli1 c)
+cdrIdle c = cdr-is Idle (waiting-is noWaits c)
 
 -- "leg 2 becomes leg 1, CDR Idle, DLI1 to the CDO"
 abbrev pub movedOver : Call → Call

@@ -3,8 +3,8 @@ use Prim.Native.Nat.{ℕ}
 use mathlib.Core.Bool.{Bool, _&&_, _||_, not}
 use lib.Dec.{eqb}
 use Rattle.event.specs.Kinds.{cfu, cfb, cfnr}
-use Rattle.notice.specs.declared.Dli1.{Dli1}
 use Rattle.notice.specs.Notice.{marked, noHistory}
+use Rattle.waits.specs.Waits.{noWaits, lastNumber}
 use Rattle.call.specs.declared.Call.{Call}
 
 -- "A record is free, outgoing or incoming."
@@ -104,10 +104,6 @@ undiverted c = eqb (c .counter) 0
 abbrev pub fits : ℕ → Call → Bool
 fits reason c = ((eqb reason cfu || eqb reason cfb) && proceeding c) || (eqb reason cfnr && received c)
 
--- no DLI1 waits
-abbrev pub noDli1 : Dli1
-noDli1 = record { reason = 0; option = 0; number = 0 }
-
 -- a free record: "each unused field is 0"
 abbrev pub freeCall : Call
 freeCall = record {
@@ -119,17 +115,17 @@ freeCall = record {
   cdf = 0;
   granted = 0;
   counter = 0;
+  start = 0;
   party = 0;
-  waiting = noDli1;
   history = noHistory;
   own = 0;
   diverting = 0;
   original = 0;
   identifier = 0;
   reason = 0;
-  start = 0;
+  waiting = noWaits;
 }
 
--- "the forwarded party (leg 2)"
+-- "the forwarded party (leg 2)": the last waiting number, which is kept once
 abbrev pub forwardedParty : Call → ℕ
-forwardedParty c = c .waiting .number
+forwardedParty c = lastNumber (c .waiting)

@@ -4,9 +4,9 @@ use mathlib.Core.Bool.{Bool, false, _&&_, _||_, not}
 use lib.Dec.{leb, eqb}
 use Rattle.ground.specs.Choice.{when_then_else_}
 use Rattle.event.specs.Kinds.{cfnr, withNumber}
-use Rattle.notice.specs.declared.Dli1.{Dli1}
 use Rattle.notice.specs.declared.History.{History}
 use Rattle.notice.specs.Notice.{marked, seen}
+use Rattle.waits.specs.Soundness.{waitsHold, waitsUnused}
 use Rattle.call.specs.declared.Call.{Call}
 use Rattle.call.specs.Record.{Proceeding, Active, Divert, Invoked, Requested, CdfDone, isFree, isOutgoing, isIncoming, active, delivered, divert, invoked, requested, wait, granted, undiverted, cdfNone, fits}
 
@@ -18,9 +18,6 @@ exactly a b = (a && b) || (not a && not b)
 abbrev pub only : Bool → Bool → Bool
 only a b = not a || b
 
-abbrev pub dli1Unused : Dli1 → Bool
-dli1Unused d = eqb (d .reason) 0 && eqb (d .option) 0 && eqb (d .number) 0
-
 abbrev pub historyUnused : History → Bool
 historyUnused h =
     eqb (h .seen) 0 && eqb (h .strictest) 0 && eqb (h .forbidden) 0 && eqb (h .shown) 0 && eqb (h .nominated) 0
@@ -28,7 +25,7 @@ historyUnused h =
 -- "each unused field is 0": the fields of an outgoing call
 abbrev pub outgoingUnused : Call → Bool
 outgoingUnused c =
-    eqb (c .cdo) 0 && eqb (c .cdr) 0 && eqb (c .party) 0 && dli1Unused (c .waiting) && historyUnused (c .history)
+    eqb (c .cdo) 0 && eqb (c .cdr) 0 && eqb (c .party) 0 && waitsUnused (c .waiting) && historyUnused (c .history)
 
 -- "each unused field is 0": the fields of an incoming call
 abbrev pub incomingUnused : Call → Bool
@@ -45,11 +42,11 @@ abbrev pub partyThere : Call → Bool
 partyThere c = not (eqb (c .party) 0)
 
 -- "in Invoked also the forwarded party (leg 2), option and reason"; "CDR is Invoked only in Delivered and with reason cfnr";
--- "each code is in range, each party .. is not 0"
+-- "each code is in range, each party .. is not 0"; document 02, Six: "soundness the kept ones", and none waits outside Invoked
 abbrev pub waitingHolds : Call → Bool
 waitingHolds c =
-    when invoked c then delivered c && eqb (c .waiting .reason) cfnr && leb (c .waiting .option) withNumber && not (eqb (c .waiting .number) 0) else
-    dli1Unused (c .waiting)
+    when invoked c then delivered c && waitsHold (c .waiting) else
+    waitsUnused (c .waiting)
 
 -- "the history: DLI1 seen, strictest option, a forbidden DLI3 seen, number shown, last nominated number. It is all 0
 -- before the first DLI1"; "each code is in range, .. (DLI1 seen) nominated number is not 0"

@@ -6,10 +6,11 @@ use mathlib.Core.Logic.{_⊎_}
 use Rattle.event.specs.declared.Event.{Event}
 use Rattle.event.specs.Kinds.{withNumber, allowed, forbidden, ReroutingInvoke, Dli1Received, OutgoingMessage}
 use Rattle.event.specs.Fields.{option-is, flag-is}
-use Rattle.notice.specs.declared.Dli1.{Dli1}
 use Rattle.notice.specs.declared.History.{History}
 use Rattle.notice.specs.Notice.{noNotice, noNumber}
-use Rattle.notice.specs.Stricter.{ShownOnlyWhere, StricterDli1, StricterHistory}
+use Rattle.notice.specs.Stricter.{ShownOnlyWhere, StricterHistory}
+use Rattle.waits.specs.declared.Waits.{Waits}
+use Rattle.waits.specs.Laws.{StricterWaits}
 use Rattle.call.specs.declared.Call.{Call}
 use Rattle.call.specs.declared.Effect.{Effect}
 use Rattle.call.specs.Fields.{waiting-is, history-is}
@@ -20,9 +21,9 @@ pub data StricterEvent : Event → Event → Type 0 where
   lower : (e : Event) (option : ℕ) → (e .kind ≡ ReroutingInvoke) ⊎ (e .kind ≡ Dli1Received) → option < e .option → e .option ≤ withNumber → StricterEvent e (option-is option e)
   hide : (e : Event) → e .kind ≡ OutgoingMessage → StricterEvent (flag-is allowed e) (flag-is forbidden e)
 
--- all fields equal but the option that waits with leg 2 and the history's strictest option and marks
+-- all fields equal but the options that wait with leg 2 and the history's strictest option and marks
 pub data StricterCall : Call → Call → Type 0 where
-  stricter : (c : Call) (waiting : Dli1) (history : History) → StricterDli1 (c .waiting) waiting → StricterHistory (c .history) history
+  stricter : (c : Call) (waiting : Waits) (history : History) → StricterWaits (c .waiting) waiting → StricterHistory (c .history) history
       → StricterCall c (waiting-is waiting (history-is history c))
 
 -- the same messages with their arguments, the same identifier and counter; a notice or a number only where the other has it

@@ -2,10 +2,10 @@
 ghost use mathlib.Core.Path.{_≡_};
 ghost use Rattle.call.specs.Record.{freeCall};
 ghost use Rattle.call.specs.Messages.{noMessage, nothing};
-use notice::Dli1;
 use notice::History;
+use waits::Waits;
 
-// What a record may hold. `waiting` is the DLI1 that waits in Invoked, and its number is the party on leg 2.
+// What a record may hold. `waiting` are the DLI1s that wait in Invoked, and the last one's number is the party on leg 2.
 #[repr(C)]
 pub struct Call {
     pub direction: u8,
@@ -16,15 +16,15 @@ pub struct Call {
     pub cdf: u8,
     pub granted: u8,
     pub counter: u8,
+    pub start: u64,
     pub party: u16,
-    pub waiting: Dli1,
     pub history: History,
     pub own: u16,
     pub diverting: u16,
     pub original: u16,
     pub identifier: u16,
     pub reason: u8,
-    pub start: u64,
+    pub waiting: Waits,
 }
 
 // A message with its leg and arguments; `diverting` is the number from which the call was diverted: DLI2's diverting number
@@ -66,11 +66,7 @@ pub struct Effect {
 pub fn free_call() -> Call
     ensures { λ r. ⌜ r ≡ freeCall ⌝ }
 {
-    let waiting = Dli1 {
-        reason: 0,
-        option: 0,
-        number: 0,
-    };
+    let waiting = waits::no_waits();
     let history = History {
         seen: 0,
         strictest: 0,
@@ -87,15 +83,15 @@ pub fn free_call() -> Call
         cdf: 0,
         granted: 0,
         counter: 0,
+        start: 0,
         party: 0,
-        waiting: waiting,
         history: history,
         own: 0,
         diverting: 0,
         original: 0,
         identifier: 0,
         reason: 0,
-        start: 0,
+        waiting: waiting,
     }
 }
 

@@ -21,5 +21,6 @@ fn main() {
     tables::fresh_codes();
     tables::damaged_outgoing();
     tables::damaged_incoming();
+    tables::waiting_ones();
     tables::sound();
 }

@@ -12,6 +12,8 @@ use crate::show::fresh;
 use crate::show::on;
 use crate::show::say;
 use call::Call;
+use notice::Dli1;
+use waits::Waits;
 
 // "table empty, over 64 records"; the table's end is the board's length.
 pub fn lengths() {
@@ -155,8 +157,11 @@ pub fn damaged_outgoing() {
     let mut c = outgoing();
     c.own = 102;
     ticked(c, 4);
+    // nothing waits outside Invoked
     let mut c = outgoing();
-    c.waiting.option = 1;
+    let mut w = c.waiting;
+    w.count = 1;
+    c.waiting = w;
     ticked(c, 5);
     let mut c = diverted();
     c.basic = 3;
@@ -164,6 +169,52 @@ pub fn damaged_outgoing() {
     let mut c = diverted();
     c.history.shown = 2;
     ticked(c, 7);
+}
+
+// In Invoked, with two that wait.
+fn invoked() -> Call {
+    let mut c = outgoing();
+    c.basic = 2;
+    c.cdr = 1;
+    let first = waiting(3, 2, 301);
+    let second = waiting(1, 0, 302);
+    let w = waits::waits_for(first);
+    c.waiting = with_second(w, second);
+    c
+}
+
+fn waiting(reason: u8, option: u8, number: u16) -> Dli1 {
+    Dli1 {
+        reason: reason,
+        option: option,
+        number: number,
+    }
+}
+
+fn with_second(w: Waits, d: Dli1) -> Waits {
+    let mut v = w;
+    v.later[0] = d;
+    v.count = 1;
+    v
+}
+
+// What waits in Invoked is sound, and each of these is not: a later one is cfnr, a place not used is not 0, more than 15 wait.
+pub fn waiting_ones() {
+    say(b"# waiting\n");
+    ticked(invoked(), 0);
+    let mut c = invoked();
+    c.waiting = with_second(c.waiting, waiting(3, 2, 302));
+    ticked(c, 1);
+    let mut c = invoked();
+    let mut w = c.waiting;
+    w.count = 0;
+    c.waiting = w;
+    ticked(c, 2);
+    let mut c = invoked();
+    let mut w = c.waiting;
+    w.count = 15;
+    c.waiting = w;
+    ticked(c, 3);
 }
 
 pub fn damaged_incoming() {

@@ -3,3 +3,4 @@ pub mod Ways
 pub mod Walks
 pub mod Pointwise
 pub mod Determined
+pub mod Zeros

@@ -11,7 +11,6 @@ use call::Call;
 use call::Effect;
 use call::Sent;
 use event::Event;
-use notice::Dli1;
 use notice::Noticed;
 
 // What waits in Invoked reaches the CDO.
@@ -20,18 +19,14 @@ fn hand_over(c: Call) -> Noticed
 {
     let history = c.history;
     let waiting = c.waiting;
-    history.take_dli1(waiting)
+    waits::hand_over(history, waiting)
 }
 
 // "CDR Idle": nothing waits any more.
 fn cdr_idle(c: Call) -> Call
     ensures { λ r. ⌜ r ≡ cdrIdle c ⌝ }
 {
-    let none = Dli1 {
-        reason: 0,
-        option: 0,
-        number: 0,
-    };
+    let none = waits::no_waits();
     let mut d = c;
     d.cdr = 0;
     d.waiting = none;
@@ -43,8 +38,10 @@ fn moved_over(c: Call) -> Call
     ensures { λ r. ⌜ r ≡ movedOver c ⌝ }
 {
     let noticed = hand_over(c);
+    let waiting = c.waiting;
+    let party = waits::last_number(waiting);
     let mut d = outgoing::to_cdo(noticed, c);
-    d.party = c.waiting.number;
+    d.party = party;
     cdr_idle(d)
 }
 

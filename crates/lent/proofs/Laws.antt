@@ -37,7 +37,9 @@ use Rattle.survey.proofs.Laws.{survey-sound, survey-free, survey-due, survey-cl
 use Rattle.turn.specs.declared.Seen.{Seen}
 use Rattle.turn.specs.declared.Turn.{Turn}
 use Rattle.turn.specs.declared.Turn.the-variants.{Refused, NoneDue, Done}
-use Rattle.turn.specs.Turn.{seenIn, beyond, numberOf, turnOf, decidedOf, stationOn, outcomeOf, Sees}
+use Rattle.turn.specs.Turn.{seenIn, beyond, numberOf, turnOf, actedOf, doable, decidedOf, stationOn, outcomeOf, Sees}
+use Rattle.turn.proofs.Sorts.{act-other}
+use Rattle.turn.proofs.Turns.{done-doable}
 use Rattle.turn.proofs.Laws.{sees-in, same-station, turn-same, decided-steps}
 use Rattle.lent.specs.declared.Input.{Input}
 use Rattle.lent.specs.declared.Pick.{Pick}
@@ -53,14 +55,14 @@ seenAt n i p c = record { len = n; place = i; identifier = p .identifier; call =
 abbrev There : Seen → Turn → Type 0
 There v (Refused code) = Unit
 There v NoneDue = Unit
-There v (Done x) = v .place < v .len
+There v Done = v .place < v .len
 
 module _ (s : Station) (e : Event) (v : Seen) where
   turn-there : There v (turnOf s e v)
   unfolding turnOf
   turn-there = go (eqb (numberOf s e v) 0) (beyond v) refl
     where
-      go : (z b : Bool) → beyond v ≡ b → There v (when not z then Refused (numberOf s e v) else when b then NoneDue else Done (act (v .call) e (v .identifier)))
+      go : (z b : Bool) → beyond v ≡ b → There v (when not z then Refused (numberOf s e v) else when b then NoneDue else Done)
       go true true h = tt
       go true false h = leb-false (v .len) (v .place) h
       go false b h = tt
@@ -68,7 +70,7 @@ module _ (s : Station) (e : Event) (v : Seen) where
   within : (t : Turn) → There v t → decisionOf s e v t .place + decisionOf s e v t .count ≤ v .len
   within (Refused code) h = zero-le
   within NoneDue h = zero-le
-  within (Done x) h = omega (arith, h)
+  within Done h = omega (arith, h)
 
 module _ (s : Station) (calls : List Call) (e : Event) where
   decided-there : There (seenIn s calls e) (decidedOf s calls e)
@@ -89,7 +91,7 @@ module _ (s : Station) (calls : List Call) (e : Event) where
   unfolding settledAt
   stands-for v (Refused code) = refl
   stands-for v NoneDue = refl
-  stands-for v (Done x) = refl
+  stands-for v Done = refl
 
   pub decision-steps : outcomeBy calls (decisionOn s calls e) ≡ step s calls e
   unfolding decisionOn
@@ -100,15 +102,27 @@ module _ (s : Station) (calls : List Call) (e : Event) where
     same-after : stationOn s e (v .identifier) ≡ stationOn s e (identifierFor s calls)
     same-after = same-station s calls e v z ∙ sym (same-station s calls e (seenIn s calls e) (sees-in s calls e))
 
-    same-decision : (t : Turn) → decisionOf s e v t ≡ decisionOf s e (seenIn s calls e) t
-    same-decision (Refused code) = refl
-    same-decision NoneDue = rw same-after
-    same-decision (Done x) = rw (p, same-after)
+    -- the record where the event acts is the definition's; an identifier that isn't the one to be drawn is not read
+    same-acted : v .place < v .len → actedOf e v ≡ actedOf e (seenIn s calls e)
+    same-acted l =
+        let c : v .call ≡ at calls (place calls e) = z .there (rw (← z .size) l) ∙ ap (at calls) p in
+        ap (λ (d : Call). act d e (v .identifier)) c
+        ∙ by-cases (diverts e) (λ d. ap (act (at calls (place calls e)) e) (z .drawn d)) (λ d. act-other e (at calls (place calls e)) (v .identifier) (identifierFor s calls) d)
+
+    same-decision : (t : Turn) → There v t → decisionOf s e v t ≡ decisionOf s e (seenIn s calls e) t
+    same-decision (Refused code) h = refl
+    same-decision NoneDue h = rw same-after
+    same-decision Done h = rw (same-acted h, p, same-after)
+
+    -- where the table passed its test
+    passed-there : (b : Bool) → There v (when b then turnOf s e v else Refused 1)
+    passed-there true = turn-there s e v
+    passed-there false = tt
 
     -- the test of the table is the definition's
     by-test : (t : Bool) → t ≡ sound s calls → decisionOf s e v (when t then turnOf s e v else Refused 1) ≡ decisionOn s calls e
     unfolding decisionOn decidedOf
-    by-test t q = rw (q, turn-same s calls e v z) (same-decision (when sound s calls then turnOf s e (seenIn s calls e) else Refused 1) ∙ ap (decisionOf s e (seenIn s calls e)) (turned (sound s calls)))
+    by-test t q = rw q (same-decision (when sound s calls then turnOf s e v else Refused 1) (passed-there (sound s calls)) ∙ rw (turn-same s calls e v z) (ap (decisionOf s e (seenIn s calls e)) (turned (sound s calls))))
       where
         turned : (b : Bool) → (when b then turnOf s e (seenIn s calls e) else Refused 1) ≡ (when not b then Refused 1 else turnOf s e (seenIn s calls e))
         turned true = refl
@@ -122,6 +136,10 @@ module _ (input : Input) (v : Noted) (n : ℕ) (p : Pick) (c : Call) (fit : Bool
   module _ (i : ℕ) (placed : i ≡ placeSeen v input) (t : Turn) (turns : turnOf (input .station) (input .event) (seenAt n i p c) ≡ t) where
     pub by-turn : not (fit && v .sound && p .apart) ≡ false → decisionOf (input .station) (input .event) (seenAt n i p c) t ≡ decisionBy input v n p c
     by-turn h = rw (upheld (fit && v .sound && p .apart) (inBounds n (input .station .limit) (input .station .next) && v .sound && p .apart) (rw bounds) h, ← turns, placed)
+
+    -- what is done has a rule
+    pub has-rule : t ≡ Done → input .station .limit < 256 → doable (input .event) (seenAt n i p c)
+    has-rule q l = done-doable (input .station) (input .event) (seenAt n i p c) (turns ∙ q) l
 
     -- the place of a record that changes has room in a byte
     pub there : There (seenAt n i p c) t

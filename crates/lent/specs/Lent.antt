@@ -21,7 +21,7 @@ use Rattle.survey.specs.declared.Noted.{Noted}
 use Rattle.turn.specs.declared.Seen.{Seen}
 use Rattle.turn.specs.declared.Turn.{Turn}
 use Rattle.turn.specs.declared.Turn.the-variants.{Refused, NoneDue, Done}
-use Rattle.turn.specs.Turn.{placeOf, seenIn, turnOf, decidedOf, stationOn}
+use Rattle.turn.specs.Turn.{placeOf, seenIn, turnOf, actedOf, decidedOf, stationOn}
 use Rattle.lent.specs.declared.Input.{Input}
 use Rattle.lent.specs.declared.Decision.{Decision}
 use Rattle.lent.specs.declared.Pick.{Pick}
@@ -38,7 +38,7 @@ changedAs i x s = record { reply = record { answer = answerOf i x; station = s }
 abbrev pub decisionOf : Station → Event → Seen → Turn → Decision
 decisionOf s e v (Refused code) = unchangedAs code s
 decisionOf s e v NoneDue = unchangedAs 0 (stationOn s e (v .identifier))
-decisionOf s e v (Done x) = changedAs (v .place) x (stationOn s e (v .identifier))
+decisionOf s e v Done = changedAs (v .place) (actedOf e v) (stationOn s e (v .identifier))
 
 -- one event on any table
 unfoldable pub decisionOn : Station → List Call → Event → Decision

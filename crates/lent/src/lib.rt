@@ -192,7 +192,8 @@ fn decided_on(input: Input, v: Noted, n: usize, p: Pick, c: Call) -> Decision
         Turn::NoneDue => {
             return unchanged(0, turn::station_on(s, e, identifier));
         }
-        Turn::Done(x) => {
+        Turn::Done => {
+            let x = turn::acted(e, seen);
             return changed(place, x, turn::station_on(s, e, identifier));
         }
     }

@@ -80,7 +80,8 @@ pub fn play(b: Board, position: u64, bytes: &[u8], out: &mut [u8]) -> Played
                 let answer = station::empty_answer(0);
                 at = printout::write_line(out, at, position + k as u64, answer);
             }
-            Turn::Done(x) => {
+            Turn::Done => {
+                let x = turn::acted(e, seen);
                 let d = x.call;
                 calls[i] = d;
                 free = notes::flip(free, i, c.direction, d.direction);

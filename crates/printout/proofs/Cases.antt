@@ -3,6 +3,8 @@ use mathlib.Core.Path.{_≡_, refl}
 use Rattle.ground.specs.Lists.{first, all, any}
 use Rattle.event.specs.WellMade.{wellMade}
 use Rattle.identifier.specs.Identifier.{distinct, firstFree}
+use Rattle.waits.specs.Waits.{room, lastAfter, afterAll, takeAll}
+use Rattle.waits.specs.Soundness.{waitsHold, waitsUnused}
 use Rattle.call.specs.Soundness.{soundOutgoing, soundIncoming, soundCall}
 use Rattle.call.specs.State.{stateForbids}
 use Rattle.call.specs.Incoming.{actIncoming}
@@ -15,5 +17,5 @@ use Rattle.printout.specs.Line.{digits, line, printed}
 use Rattle.printout.specs.Cases.{charactersOf, casesP, expectedP}
 
 pub cases-p : casesP ≡ expectedP
-unfolding first all any wellMade distinct firstFree soundOutgoing soundIncoming soundCall stateForbids actIncoming actOutgoing act requestsOf sound refusalOnSound refusal done byNumber step digits line printed charactersOf
+unfolding first all any wellMade distinct firstFree room lastAfter afterAll takeAll waitsHold waitsUnused soundOutgoing soundIncoming soundCall stateForbids actIncoming actOutgoing act requestsOf sound refusalOnSound refusal done byNumber step digits line printed charactersOf
 cases-p = refl

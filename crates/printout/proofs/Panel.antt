@@ -6,6 +6,8 @@ use Rattle.ground.specs.Lists.{first, all, any}
 use Rattle.event.specs.Record.{eventAt, eventsFrom}
 use Rattle.event.specs.WellMade.{wellMade}
 use Rattle.identifier.specs.Identifier.{distinct, firstFree}
+use Rattle.waits.specs.Waits.{room, lastAfter, afterAll, takeAll}
+use Rattle.waits.specs.Soundness.{waitsHold, waitsUnused}
 use Rattle.call.specs.Soundness.{soundOutgoing, soundIncoming, soundCall}
 use Rattle.call.specs.State.{stateForbids}
 use Rattle.call.specs.Incoming.{actIncoming}
@@ -21,5 +23,5 @@ use Rattle.printout.specs.Cases.{charactersOf}
 -- nothing printed for no input; an open outgoing call, then a record that is cut behind its first byte
 pub panel-small : panelText [] ++ panelText (1 ∷ replicate 10 0 ++ (101 ∷ replicate 11 0) ++ (1 ∷ 15 ∷ []))
     ≡ charactersOf "0 0 0 - - - - -\ncut 1\n"
-unfolding first all any eventAt eventsFrom wellMade distinct firstFree soundOutgoing soundIncoming soundCall stateForbids actIncoming actOutgoing act requestsOf sound refusalOnSound refusal done byNumber step digits line printed flatten panelText charactersOf
+unfolding first all any eventAt eventsFrom wellMade distinct firstFree room lastAfter afterAll takeAll waitsHold waitsUnused soundOutgoing soundIncoming soundCall stateForbids actIncoming actOutgoing act requestsOf sound refusalOnSound refusal done byNumber step digits line printed flatten panelText charactersOf
 panel-small = refl

@@ -57,7 +57,8 @@ fn run_tested(b: Board, events: &[u8]) -> Ran
                 s = turn::station_on(s, e, identifier);
                 done += 1;
             }
-            Turn::Done(x) => {
+            Turn::Done => {
+                let x = turn::acted(e, seen);
                 let d = x.call;
                 calls[i] = d;
                 free = notes::flip(free, i, c.direction, d.direction);

@@ -8,12 +8,11 @@ use lib.Dec.{T, eqb, leb, ltb, ltb→lt}
 use Rattle.ground.specs.Choice.{when_then_else_}
 use Rattle.ground.proofs.Bools.{by-cases, and-l, and-r, and-i}
 use Rattle.ground.proofs.Walks.{and-false, both}
+use Rattle.waits.specs.Soundness.{waitsUnused}
 use Rattle.call.specs.declared.Call.{Call}
-use Rattle.call.specs.Record.{delivered}
-use Rattle.call.specs.Soundness.{exactly, only, incomingUnused, outgoingCodes, partyThere, outgoingUnused, ownThere, cdfHolds, numbersHold, requestHolds, identifierThere, excludes, waitHolds, startHolds, soundIncoming, waitingHolds, historyHolds, divertHolds, soundOutgoing}
-use Rattle.sound.specs.Words.{partyWord, codesWord}
-use Rattle.sound.proofs.Zeros.{legs-zero, told-zero}
-use Rattle.sound.specs.Cases.{divertedBy, requestBy, incomingBase, incomingRest, incomingBy, outgoingBase, outgoingRest, outgoingBy}
+use Rattle.call.specs.Soundness.{exactly, only, outgoingUnused, ownThere, cdfHolds, numbersHold, requestHolds, identifierThere, excludes, waitHolds, startHolds, soundIncoming, waitingHolds, historyHolds, divertHolds, soundOutgoing}
+use Rattle.sound.specs.Words.{legsWord, partyWord, codesWord}
+use Rattle.sound.specs.Cases.{divertedBy, requestBy, incomingBase, incomingRest, incomingBy, outgoingBase, outgoingPlain, outgoingBy}
 
 and-true : (a : Bool) → a && true ≡ a
 and-true true = refl
@@ -166,45 +165,34 @@ either last c = by-cases (eqb (codesWord c) 0) (λ t. rw t (short last c t)) (λ
 pub incoming-same : (last : ℕ) (c : Call) → incomingBy last c ≡ soundIncoming last c
 incoming-same last c = ap (λ (b : Bool). when incomingBase c then b else false) (either last c) ∙ two-tests (incomingBase c) (divertedBy c) (requestBy last c) ∙ incoming-all last c
 
--- the short case of an outgoing call, by its two codes
-short-out : (cdo cdr : ℕ) (d t : Bool) → leb cdo 1 ≡ true → leb cdr 1 ≡ true
-    → (eqb cdo 0 && eqb cdr 0 && t) ≡ (when (when eqb cdr 1 then d && false && true && false else true) then (when t then (eqb cdo 1 && false) || (not (eqb cdo 1) && true) else false) else false)
-short-out zero zero d true p q = refl
-short-out zero zero d false p q = refl
-short-out zero (suc zero) d t p q = rw (and-false d)
-short-out (suc zero) zero d true p q = refl
-short-out (suc zero) zero d false p q = refl
-short-out (suc zero) (suc zero) d t p q = rw (and-false d)
-short-out (suc (suc n)) cdr d t p q = absurd (false≢true (sym (above-1 n) ∙ p))
-short-out zero (suc (suc n)) d t p q = absurd (false≢true (sym (above-1 n) ∙ q))
-short-out (suc zero) (suc (suc n)) d t p q = absurd (false≢true (sym (above-1 n) ∙ q))
-
 abbrev long : Call → Bool
 long c = when waitingHolds c then (when historyHolds (c .history) then divertHolds c else false) else false
 
-rest-long : (c : Call) → outgoingBase c ≡ true → ltb (partyWord c) 65536 ≡ true → outgoingRest c ≡ long c
-rest-long c h t =
-    let w : partyWord c < 65536 = ltb→lt (partyWord c) 65536 (rw t tt) in
-    let e₀ : c .waiting .reason ≡ 0 = omega (arith, w) in
-    let e₁ : c .waiting .option ≡ 0 = omega (arith, w) in
-    let e₂ : c .waiting .number ≡ 0 = omega (arith, w) in
-    let e₃ : c .history .seen ≡ 0 = omega (arith, w) in
-    let e₄ : c .history .strictest ≡ 0 = omega (arith, w) in
-    let codes = both (incomingUnused c) (outgoingCodes c) (both (incomingUnused c && outgoingCodes c) (partyThere c) h .0) .1 in
-    let low = both (leb 1 (c .basic) && leb (c .basic) 3 && leb (c .cdo) 1) (leb (c .cdr) 1) codes in
-    let cdo = both (leb 1 (c .basic) && leb (c .basic) 3) (leb (c .cdo) 1) (low .0) in
-    rw (legs-zero c, told-zero c, e₀, e₁, e₂, e₃, e₄) (short-out (c .cdo) (c .cdr) (delivered c) (eqb (c .history .forbidden) 0 && eqb (c .history .shown) 0 && eqb (c .history .nominated) 0) (cdo .1) (low .1))
+itself : (b : Bool) → b ≡ when b then true else false
+itself true = refl
+itself false = refl
 
-either-out : (c : Call) → outgoingBase c ≡ true → (when ltb (partyWord c) 65536 then outgoingRest c else long c) ≡ long c
-either-out c h = by-cases (ltb (partyWord c) 65536) (λ t. rw t (rest-long c h t)) (λ f. rw f)
+-- the short case of an outgoing call says the same
+plain-long : (c : Call) → outgoingPlain c ≡ true → waitsUnused (c .waiting) ≡ long c
+plain-long c t =
+    let p = both (eqb (legsWord c) 0) (ltb (partyWord c) 65536) t in
+    let l : legsWord c ≡ 0 = eqb-true (legsWord c) 0 (p .0) in
+    let w : partyWord c < 65536 = ltb→lt (partyWord c) 65536 (rw (p .1) tt) in
+    let e₀ : c .cdo ≡ 0 = omega (arith, l) in
+    let e₁ : c .cdr ≡ 0 = omega (arith, l) in
+    let e₂ : c .history .seen ≡ 0 = omega (arith, w) in
+    let e₃ : c .history .strictest ≡ 0 = omega (arith, w) in
+    let e₄ : c .history .forbidden ≡ 0 = omega (arith, w) in
+    let e₅ : c .history .shown ≡ 0 = omega (arith, w) in
+    let e₆ : c .history .nominated ≡ 0 = omega (arith, w) in
+    rw (e₀, e₁, e₂, e₃, e₄, e₅, e₆) (itself (waitsUnused (c .waiting)))
+
+either-out : (c : Call) → (when outgoingPlain c then waitsUnused (c .waiting) else long c) ≡ long c
+either-out c = by-cases (outgoingPlain c) (λ t. rw t (plain-long c t)) (λ f. rw f)
 
 outgoing-all : (c : Call) → (when outgoingBase c then long c else false) ≡ soundOutgoing c
 unfolding soundOutgoing
 outgoing-all c = three-tests (outgoingBase c) (waitingHolds c) (historyHolds (c .history)) (divertHolds c)
 
-under : (b x y : Bool) → (b ≡ true → x ≡ y) → (when b then x else false) ≡ (when b then y else false)
-under true x y h = h refl
-under false x y h = refl
-
 pub outgoing-same : (c : Call) → outgoingBy c ≡ soundOutgoing c
-outgoing-same c = under (outgoingBase c) _ (long c) (either-out c) ∙ outgoing-all c
+outgoing-same c = ap (λ (b : Bool). when outgoingBase c then b else false) (either-out c) ∙ outgoing-all c

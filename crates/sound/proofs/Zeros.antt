@@ -1,55 +1,40 @@
--- A sum is 0 exactly where each part is. Assumes nothing.
-use Prim.Native.Nat.{ℕ, zero, suc, _+_, _*_}
+-- A word is 0 exactly where each of its fields is. Assumes nothing.
 use mathlib.Core.Bool.{Bool, true, false, _&&_}
-use mathlib.Core.Path.{_≡_, refl, ap, _∙_}
-use native.Mathlib.Nat.{mul-suc}
-use native.Mathlib.Omega.{arith}
-use borrow.Author.Tests.{eq-eqb, ne-eqb}
+use mathlib.Core.Path.{_≡_, refl, _∙_}
 use lib.Dec.{eqb}
+use Rattle.ground.proofs.Zeros.{two, four, six}
+use Rattle.waits.specs.Soundness.{waitsUnused}
 use Rattle.call.specs.declared.Call.{Call}
-use Rattle.sound.specs.Words.{legsWord, partyWord, toldWord, codesWord, numbersWord}
+use Rattle.call.specs.Soundness.{historyUnused, outgoingUnused}
+use Rattle.sound.specs.Words.{legsWord, partyWord, codesWord, numbersWord}
 
 pub and-assoc : (a b c : Bool) → a && (b && c) ≡ (a && b) && c
 and-assoc true b c = refl
 and-assoc false b c = refl
 
-not-0 : (a : ℕ) → eqb (suc a) 0 ≡ false
-not-0 a = ne-eqb (suc a) 0 (λ (e : suc a ≡ 0). absurd (omega (arith, e)))
-
--- by a factor k + 1
-zeros : (a b k : ℕ) → eqb (a + suc k * b) 0 ≡ (eqb a 0 && eqb b 0)
-zeros zero zero k = eq-eqb (0 + suc k * 0) 0 (omega arith)
-zeros zero (suc b) k = rw (not-0 b) (ne-eqb (0 + suc k * suc b) 0 (λ (e : 0 + suc k * suc b ≡ 0). absurd (omega (arith, e, mul-suc (suc k) b))))
-zeros (suc a) b k = rw (not-0 a) (ne-eqb (suc a + suc k * b) 0 (λ (e : suc a + suc k * b ≡ 0). absurd (omega (arith, e))))
-
--- one part more
-pub more : (x b k : ℕ) (t : Bool) → eqb x 0 ≡ t → eqb (x + suc k * b) 0 ≡ (t && eqb b 0)
-more x b k t h = zeros x b k ∙ ap (λ (u : Bool). u && eqb b 0) h
-
--- up to six parts side by side
-pub two : (a b j : ℕ) → eqb (a + suc j * b) 0 ≡ (eqb a 0 && eqb b 0)
-two a b j = more a b j (eqb a 0) refl
-
-pub three : (a b c j k : ℕ) → eqb (a + suc j * b + suc k * c) 0 ≡ (eqb a 0 && eqb b 0 && eqb c 0)
-three a b c j k = more (a + suc j * b) c k (eqb a 0 && eqb b 0) (two a b j)
-
-pub four : (a b c d j k l : ℕ) → eqb (a + suc j * b + suc k * c + suc l * d) 0 ≡ (eqb a 0 && eqb b 0 && eqb c 0 && eqb d 0)
-four a b c d j k l = more (a + suc j * b + suc k * c) d l (eqb a 0 && eqb b 0 && eqb c 0) (three a b c j k)
-
-pub five : (a b c d e j k l m : ℕ) → eqb (a + suc j * b + suc k * c + suc l * d + suc m * e) 0 ≡ (eqb a 0 && eqb b 0 && eqb c 0 && eqb d 0 && eqb e 0)
-five a b c d e j k l m = more (a + suc j * b + suc k * c + suc l * d) e m (eqb a 0 && eqb b 0 && eqb c 0 && eqb d 0) (four a b c d j k l)
-
-pub six : (a b c d e f j k l m n : ℕ) → eqb (a + suc j * b + suc k * c + suc l * d + suc m * e + suc n * f) 0 ≡ (eqb a 0 && eqb b 0 && eqb c 0 && eqb d 0 && eqb e 0 && eqb f 0)
-six a b c d e f j k l m n = more (a + suc j * b + suc k * c + suc l * d + suc m * e) f n (eqb a 0 && eqb b 0 && eqb c 0 && eqb d 0 && eqb e 0) (five a b c d e j k l m)
-
 pub legs-zero : (c : Call) → eqb (legsWord c) 0 ≡ (eqb (c .cdo) 0 && eqb (c .cdr) 0)
 legs-zero c = two (c .cdo) (c .cdr) 255
 
-pub party-zero : (c : Call) → eqb (partyWord c) 0 ≡ (eqb (c .party) 0 && eqb (c .waiting .reason) 0 && eqb (c .waiting .option) 0 && eqb (c .waiting .number) 0 && eqb (c .history .seen) 0 && eqb (c .history .strictest) 0)
-party-zero c = six (c .party) (c .waiting .reason) (c .waiting .option) (c .waiting .number) (c .history .seen) (c .history .strictest) 65535 16777215 4294967295 281474976710655 72057594037927935
+first-apart : (a b c d e f : Bool) → (a && b && c && d && e && f) ≡ (a && (b && c && d && e && f))
+first-apart true b c d e f = refl
+first-apart false b c d e f = refl
 
-pub told-zero : (c : Call) → eqb (toldWord c) 0 ≡ (eqb (c .history .forbidden) 0 && eqb (c .history .shown) 0 && eqb (c .history .nominated) 0)
-told-zero c = three (c .history .forbidden) (c .history .shown) (c .history .nominated) 255 65535
+pub party-zero : (c : Call) → eqb (partyWord c) 0 ≡ (eqb (c .party) 0 && historyUnused (c .history))
+party-zero c =
+    six (c .party) (c .history .seen) (c .history .strictest) (c .history .forbidden) (c .history .shown) (c .history .nominated) 65535 16777215 4294967295 1099511627775 281474976710655
+    ∙ first-apart (eqb (c .party) 0) (eqb (c .history .seen) 0) (eqb (c .history .strictest) 0) (eqb (c .history .forbidden) 0) (eqb (c .history .shown) 0) (eqb (c .history .nominated) 0)
+
+-- what waits, and the history, in either order
+swapped : (a p h w : Bool) → (a && (p && h) && w) ≡ (a && p && w && h)
+swapped true true true true = refl
+swapped true true true false = refl
+swapped true true false true = refl
+swapped true true false false = refl
+swapped true false h w = refl
+swapped false p h w = refl
+
+pub outgoing-zero : (c : Call) → (eqb (legsWord c) 0 && eqb (partyWord c) 0 && waitsUnused (c .waiting)) ≡ outgoingUnused c
+outgoing-zero c = rw (legs-zero c, party-zero c) (swapped (eqb (c .cdo) 0 && eqb (c .cdr) 0) (eqb (c .party) 0) (historyUnused (c .history)) (waitsUnused (c .waiting)))
 
 pub codes-zero : (c : Call) → eqb (codesWord c) 0 ≡ (eqb (c .cds) 0 && eqb (c .cdf) 0 && eqb (c .granted) 0 && eqb (c .counter) 0)
 codes-zero c = four (c .cds) (c .cdf) (c .granted) (c .counter) 255 65535 16777215

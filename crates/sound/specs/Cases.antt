@@ -4,10 +4,11 @@ use Prim.Native.Nat.{ℕ}
 use lib.Dec.{eqb, leb, ltb}
 use Rattle.ground.specs.Choice.{when_then_else_}
 use Rattle.notice.specs.Notice.{unmarked}
+use Rattle.waits.specs.Soundness.{waitsUnused}
 use Rattle.call.specs.declared.Call.{Call}
 use Rattle.call.specs.Record.{Proceeding, Active, Idle, CdfDone, active, requested, cdfNone, wait, granted, undiverted, fits}
 use Rattle.call.specs.Soundness.{incomingUnused, outgoingUnused, outgoingCodes, ownThere, partyThere, waitingHolds, historyHolds, divertHolds, startHolds}
-use Rattle.sound.specs.Words.{legsWord, partyWord, toldWord, codesWord}
+use Rattle.sound.specs.Words.{legsWord, partyWord, codesWord}
 
 -- it was diverted up to 15 times before, or not at all
 abbrev pub divertedBy : Call → Bool
@@ -41,13 +42,13 @@ incomingBy last c =
 abbrev pub outgoingBase : Call → Bool
 outgoingBase c = incomingUnused c && outgoingCodes c && partyThere c
 
--- the short case, nothing waits and no DLI1 was seen: what is left is 0
-abbrev pub outgoingRest : Call → Bool
-outgoingRest c = eqb (legsWord c) 0 && eqb (toldWord c) 0
+-- the short case, CDO and CDR Idle and no history
+abbrev pub outgoingPlain : Call → Bool
+outgoingPlain c = eqb (legsWord c) 0 && ltb (partyWord c) 65536
 
--- an outgoing call's record, the short case first
+-- an outgoing call's record, the short case first: nothing may wait
 abbrev pub outgoingBy : Call → Bool
 outgoingBy c =
     when outgoingBase c then
-    (when ltb (partyWord c) 65536 then outgoingRest c else when waitingHolds c then (when historyHolds (c .history) then divertHolds c else false) else false) else
+    (when outgoingPlain c then waitsUnused (c .waiting) else when waitingHolds c then (when historyHolds (c .history) then divertHolds c else false) else false) else
     false

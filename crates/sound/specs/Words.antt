@@ -6,15 +6,11 @@ use Rattle.call.specs.declared.Call.{Call}
 abbrev pub legsWord : Call → ℕ
 legsWord c = c .cdo + 256 * c .cdr
 
--- the party on leg 1, the DLI1 that waits, and the beginning of the history: below 65536 only the party is there
+-- the party on leg 1, and the history: below 65536 only the party is there
 abbrev pub partyWord : Call → ℕ
 partyWord c =
-    c .party + 65536 * c .waiting .reason + 16777216 * c .waiting .option + 4294967296 * c .waiting .number + 281474976710656 * c .history .seen
-    + 72057594037927936 * c .history .strictest
-
--- the rest of the history
-abbrev pub toldWord : Call → ℕ
-toldWord c = c .history .forbidden + 256 * c .history .shown + 65536 * c .history .nominated
+    c .party + 65536 * c .history .seen + 16777216 * c .history .strictest + 4294967296 * c .history .forbidden + 1099511627776 * c .history .shown
+    + 281474976710656 * c .history .nominated
 
 -- CDS, CDF, the granted mark and the counter
 abbrev pub codesWord : Call → ℕ

@@ -3,12 +3,11 @@ ghost use mathlib.Core.Path.{_≡_};
 ghost use mathlib.Core.Bool.{_&&_};
 ghost use lib.Dec.{eqb, leb};
 ghost use Rattle.call.specs.Record.{fits as fitsState};
-ghost use Rattle.call.specs.Soundness.{dli1Unused, historyUnused, outgoingUnused, incomingUnused, outgoingCodes, waitingHolds, historyHolds, divertHolds, soundCall};
+ghost use Rattle.call.specs.Soundness.{historyUnused, outgoingUnused, incomingUnused, outgoingCodes, waitingHolds, historyHolds, divertHolds, soundCall};
 ghost use Rattle.sound.specs.Bounds.{inBounds};
-ghost use Rattle.sound.specs.Cases.{divertedBy, requestBy, incomingBase, incomingRest, incomingBy, outgoingBase, outgoingRest, outgoingBy};
-ghost use Rattle.sound.specs.Words.{legsWord, partyWord, toldWord, codesWord, numbersWord};
+ghost use Rattle.sound.specs.Cases.{divertedBy, requestBy, incomingBase, incomingRest, incomingBy, outgoingBase, outgoingPlain, outgoingBy};
+ghost use Rattle.sound.specs.Words.{legsWord, partyWord, codesWord, numbersWord};
 use call::Call;
-use notice::Dli1;
 use notice::History;
 
 // Fields that lie side by side in memory, as one number: the compiler reads it by one load. CDO and CDR.
@@ -18,26 +17,17 @@ fn legs_word(c: Call) -> u64
     (c.cdo as u64) + 256 * (c.cdr as u64)
 }
 
-// The party on leg 1, the DLI1 that waits, and the beginning of the history.
+// The party on leg 1, and the history.
 fn party_word(c: Call) -> u64
     ensures { λ r. ⌜ r ≡ partyWord c ⌝ }
 {
-    let w = c.waiting;
     let h = c.history;
     (c.party as u64)
-        + 65536 * (w.reason as u64)
-        + 16777216 * (w.option as u64)
-        + 4294967296 * (w.number as u64)
-        + 281474976710656 * (h.seen as u64)
-        + 72057594037927936 * (h.strictest as u64)
-}
-
-// The rest of the history.
-fn told_word(c: Call) -> u64
-    ensures { λ r. ⌜ r ≡ toldWord c ⌝ }
-{
-    let h = c.history;
-    (h.forbidden as u64) + 256 * (h.shown as u64) + 65536 * (h.nominated as u64)
+        + 65536 * (h.seen as u64)
+        + 16777216 * (h.strictest as u64)
+        + 4294967296 * (h.forbidden as u64)
+        + 1099511627776 * (h.shown as u64)
+        + 281474976710656 * (h.nominated as u64)
 }
 
 // CDS, CDF, the granted mark and the counter.
@@ -68,10 +58,11 @@ fn numbers_word(c: Call) -> u64
 fn outgoing_unused(c: Call) -> bool
     ensures { λ r. ⌜ r ≡ outgoingUnused c ⌝ }
 {
+    let waiting = c.waiting;
     let legs = legs_word(c);
     let party = party_word(c);
-    let told = told_word(c);
-    (legs == 0) & (party == 0) & (told == 0)
+    let unused = waits::waits_unused(waiting);
+    (legs == 0) & (party == 0) & unused
 }
 
 // All that only an incoming call has is 0.
@@ -81,13 +72,6 @@ fn incoming_unused(c: Call) -> bool
     let codes = codes_word(c);
     let numbers = numbers_word(c);
     (codes == 0) & (numbers == 0) & (c.reason == 0) & (c.start == 0)
-}
-
-// No DLI1 waits.
-fn dli1_unused(d: Dli1) -> bool
-    ensures { λ r. ⌜ r ≡ dli1Unused d ⌝ }
-{
-    (d.reason == 0) & (d.option == 0) & (d.number == 0)
 }
 
 // "It is all 0 before the first DLI1"
@@ -179,10 +163,11 @@ fn waiting_holds(c: Call) -> bool
     ensures { λ r. ⌜ r ≡ waitingHolds c ⌝ }
 {
     let waiting = c.waiting;
+    let delivered = c.basic == 2;
     if c.cdr == 1 {
-        (c.basic == 2) & (waiting.reason == 3) & (waiting.option <= 2) & !(waiting.number == 0)
+        delivered & waits::waits_hold(waiting)
     } else {
-        dli1_unused(waiting)
+        waits::waits_unused(waiting)
     }
 }
 
@@ -215,13 +200,13 @@ fn outgoing_base(c: Call) -> bool
     unused & codes & !(c.party == 0)
 }
 
-// The short case: nothing waits and no DLI1 was seen, so nothing else is there.
-fn outgoing_rest(c: Call) -> bool
-    ensures { λ r. ⌜ r ≡ outgoingRest c ⌝ }
+// The short case: CDO and CDR Idle and no history, so that nothing may wait either.
+fn outgoing_plain(c: Call) -> bool
+    ensures { λ r. ⌜ r ≡ outgoingPlain c ⌝ }
 {
     let legs = legs_word(c);
-    let told = told_word(c);
-    (legs == 0) & (told == 0)
+    let party = party_word(c);
+    (legs == 0) & (party < 65536)
 }
 
 // "Outgoing: .."
@@ -229,10 +214,10 @@ fn sound_outgoing(c: Call) -> bool
     ensures { λ r. ⌜ r ≡ outgoingBy c ⌝ }
 {
     let history = c.history;
+    let waiting = c.waiting;
     if outgoing_base(c) {
-        let party = party_word(c);
-        if party < 65536 {
-            return outgoing_rest(c);
+        if outgoing_plain(c) {
+            return waits::waits_unused(waiting);
         }
         if waiting_holds(c) {
             if history_holds(history) {

@@ -16,6 +16,7 @@ use Rattle.call.specs.declared.Call.{Call}
 use Rattle.call.specs.Record.{freeCall, requested}
 use Rattle.call.specs.Soundness.{soundCall}
 use Rattle.call.specs.Act.{act}
+use Rattle.call.proofs.Sound.{free-sound}
 use Rattle.call.proofs.Kept.{sound-later, act-kept, act-request}
 use Rattle.station.specs.declared.Station.{Station}
 use Rattle.station.specs.Station.{nextOk, freshStation}
@@ -102,9 +103,9 @@ run-sound r [] h = h
 run-sound r (e ∷ rest) h = run-sound (runStep r e) rest (step-sound (r .station) (r .calls) e h)
 
 all-free : (n last : ℕ) → T (all (soundCall last) (replicate n freeCall))
-unfolding all soundCall
+unfolding all
 all-free zero last = tt
-all-free (suc n) last = all-free n last
+all-free (suc n) last = and-i (soundCall last freeCall) (all (soundCall last) (replicate n freeCall)) (free-sound last) (all-free n last)
 
 none-asked : (n : ℕ) → requestsOf (replicate n freeCall) ≡ []
 unfolding requestsOf

@@ -12,7 +12,8 @@ use Rattle.ground.proofs.Bools.{is-true}
 use Rattle.ground.proofs.Pointwise.{getD-rel, length-rel}
 use Rattle.event.specs.declared.Event.{Event}
 use Rattle.event.specs.WellMade.{wellMade}
-use Rattle.notice.specs.Stricter.{lowered, tightened}
+use Rattle.notice.specs.Stricter.{tightened}
+use Rattle.waits.proofs.Laws.{party-same, count-same, numbers-same as waiting-numbers-same, reasons-same as waiting-reasons-same}
 use Rattle.call.specs.declared.Call.{Call}
 use Rattle.call.specs.Record.{isFree}
 use Rattle.call.specs.Incoming.{due}
@@ -26,7 +27,7 @@ use Rattle.station.specs.Demand3.{SameStates, acts}
 
 -- a record and a stricter one
 pub same-states : {c c' : Call} → StricterCall c c' → SameStates c c'
-same-states (stricter c w h (lowered d option k l) (tightened g strictest forbidden shown low top marked less shut)) = record {
+same-states (stricter c w h p (tightened g strictest forbidden shown low top marked less shut)) = record {
   direction = refl;
   basic = refl;
   cdo = refl;
@@ -39,8 +40,10 @@ same-states (stricter c w h (lowered d option k l) (tightened g strictest forbid
   reason = refl;
   counter = refl;
   party = refl;
-  forwarded = refl;
-  forwardedReason = refl;
+  forwarded = party-same (c .waiting) w p;
+  waitingCount = count-same (c .waiting) w p;
+  waitingNumbers = waiting-numbers-same (c .waiting) w p;
+  waitingReasons = waiting-reasons-same (c .waiting) w p;
   seen = refl;
   nominated = refl;
   own = refl;

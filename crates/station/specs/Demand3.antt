@@ -7,7 +7,7 @@
 use Prim.Native.Nat.{ℕ}
 use mathlib.Core.Path.{_≡_}
 use mathlib.Core.Bool.{Bool, false, _&&_, _||_, not}
-use mathlib.Core.List.{List, [], _∷_, Forall₂}
+use mathlib.Core.List.{List, [], _∷_, map, Forall₂}
 use lib.Dec.{T, ltb, eqb}
 use lib.ListN.{length}
 use Rattle.ground.specs.Choice.{when_then_else_}
@@ -15,7 +15,10 @@ use Rattle.event.specs.declared.Event.{Event}
 use Rattle.event.specs.Kinds.{opens}
 use Rattle.notice.specs.Notice.{noNotice, noNumber}
 use Rattle.notice.specs.Stricter.{ShownOnlyWhere}
+use Rattle.waits.specs.Waits.{dli1s}
+use Rattle.waits.specs.Laws.{dli1Number, dli1Reason}
 use Rattle.call.specs.declared.Call.{Call}
+use Rattle.call.specs.Record.{forwardedParty}
 use Rattle.call.specs.Stricter.{StricterEvent}
 use Rattle.station.specs.declared.Station.{Station}
 use Rattle.station.specs.declared.Answer.{Answer}
@@ -33,7 +36,7 @@ pub record StricterAnswer (a a' : Answer) : Type 0 where
   pub notice : ShownOnlyWhere noNotice (a .notice) (a' .notice)
   pub number : ShownOnlyWhere noNumber (a .number) (a' .number)
 
--- "agree in basic states, service states and timers", and in every other field but the option that waits with leg 2 and the
+-- "agree in basic states, service states and timers", and in every other field but the options that wait with leg 2 and the
 -- history's strictest option and marks
 pub record SameStates (c c' : Call) : Type 0 where
   pub direction : c' .direction ≡ c .direction
@@ -48,8 +51,10 @@ pub record SameStates (c c' : Call) : Type 0 where
   pub reason : c' .reason ≡ c .reason
   pub counter : c' .counter ≡ c .counter
   pub party : c' .party ≡ c .party
-  pub forwarded : c' .waiting .number ≡ c .waiting .number
-  pub forwardedReason : c' .waiting .reason ≡ c .waiting .reason
+  pub forwarded : forwardedParty c' ≡ forwardedParty c
+  pub waitingCount : c' .waiting .count ≡ c .waiting .count
+  pub waitingNumbers : map dli1Number (dli1s (c' .waiting)) ≡ map dli1Number (dli1s (c .waiting))
+  pub waitingReasons : map dli1Reason (dli1s (c' .waiting)) ≡ map dli1Reason (dli1s (c .waiting))
   pub seen : c' .history .seen ≡ c .history .seen
   pub nominated : c' .history .nominated ≡ c .history .nominated
   pub own : c' .own ≡ c .own

@@ -108,7 +108,7 @@ module _ (s : Station) (calls : List Call) (e : Event) where
         rw (same-number s calls e v z, same-number s calls e (seenIn s calls e) (sees-in s calls e), same-beyond s calls e v z)
         (by-cases (leb (length calls) (place calls e))
         (λ t. rw t)
-        (λ f. rw (f, same-call s calls e v z (leb-false (length calls) (place calls e) f), same-act s calls e v z (at calls (place calls e)))))
+        (λ f. rw f))
 
   on-sound : stepOnSound s calls e ≡ byNumber s calls e (refusalOnSound s calls e)
   unfolding stepOnSound

@@ -11,16 +11,15 @@ use Rattle.event.specs.declared.Event.{Event}
 use Rattle.event.specs.Kinds.{opens, ofIncoming, ofOutgoing, ends}
 use Rattle.event.specs.WellMade.{wellMade}
 use Rattle.call.specs.declared.Call.{Call}
-use Rattle.call.specs.declared.Effect.{Effect}
 use Rattle.call.specs.State.{stateForbids}
-use Rattle.call.specs.Act.{act}
 use Rattle.station.specs.declared.Station.{Station}
 use Rattle.station.specs.Refusals.{early, illMade, wrongCall, otherIdentifier, overLimit}
 use Rattle.turn.specs.declared.Seen.{Seen}
 use Rattle.turn.specs.declared.Turn.{Turn}
 use Rattle.turn.specs.declared.Turn.the-variants.{Refused, NoneDue, Done}
-use Rattle.turn.specs.Turn.{beyond, numberOf, turnOf}
-use Rattle.turn.proofs.Numbered.{by-seen, numbers-early, numbers-ill, numbers-open, numbers-named}
+use Rattle.turn.specs.Turn.{beyond, numberOf, turnOf, doable}
+use Rattle.turn.proofs.Sorts.{kind-low, kind-high}
+use Rattle.turn.proofs.Numbered.{by-seen, numbers-early, numbers-ill}
 
 -- a test was passed where the number is 0
 passed : (b : Bool) (k n : ℕ) → (when b then k else n) ≡ 0 → (k ≡ 0 → ⊥) → (b ≡ false) × (n ≡ 0)
@@ -52,9 +51,9 @@ module _ (s : Station) (e : Event) (v : Seen) where
   unfolding turnOf
   turns-early h = rw (by-seen s e v ∙ numbers-early s e (beyond v) (v .call) (beyond v) h)
 
-  pub turns-ill : s .last ≤ e .time → wellMade e ≡ false → Refused 3 ≡ turnOf s e v
-  unfolding turnOf
-  turns-ill h w = rw (by-seen s e v ∙ numbers-ill s e (beyond v) (v .call) (beyond v) h w)
+  -- an event of no kind
+  pub number-ill : s .last ≤ e .time → wellMade e ≡ false → 3 ≡ numberOf s e v
+  number-ill h w = sym (by-seen s e v ∙ numbers-ill s e (beyond v) (v .call) (beyond v) h w)
 
   module _ (code : ℕ) (q : code ≡ numberOf s e v) where
     pub turns-refused : (code ≡ 0 → ⊥) → Refused code ≡ turnOf s e v
@@ -69,35 +68,16 @@ module _ (s : Station) (e : Event) (v : Seen) where
       unfolding turnOf
       turns-none l = rw (none, le-leb (v .len) (v .place) l)
 
-      pub turns-there : (x : Effect) → v .place < v .len → x ≡ act (v .call) e (v .identifier) → Done x ≡ turnOf s e v
+      pub turns-there : v .place < v .len → Done ≡ turnOf s e v
       unfolding turnOf
-      turns-there x l a = rw (none, lt-leb (v .len) (v .place) l, ← a)
+      turns-there l = rw (none, lt-leb (v .len) (v .place) l)
 
       by-two : (early s e ≡ false) × (illMade e ≡ false)
       unfolding numberOf
       by-two = first-two (early s e) (illMade e) (from-4 s e v) none
 
-      late : s .last ≤ e .time
-      late = ltb-false (e .time) (s .last) (by-two .0)
-
-      made : wellMade e ≡ true
+      pub made : wellMade e ≡ true
       made = not-false (wellMade e) (by-two .1)
-
-      -- only a clock event is done with no record of its own
-      there : (e .kind ≡ 10 → ⊥) → v .place < v .len
-      there o =
-          by-cases (leb (v .len) (v .place)) (λ t.
-          by-cases (ltb (e .kind) 4)
-          (λ k.
-          let n : numberOf s e v ≡ 8 = by-seen s e v ∙ numbers-open s e (beyond v) (v .call) (beyond v) late made (ltb-true (e .kind) 4 k) ∙ rw t in
-          absurd (omega (arith, n, none)))
-          (λ k.
-          let n : numberOf s e v ≡ 4 = by-seen s e v ∙ numbers-named s e (beyond v) (v .call) (beyond v) late made (ltb-false (e .kind) 4 k) o ∙ rw t in
-          absurd (omega (arith, n, none))))
-          (λ f. leb-false (v .len) (v .place) f)
-
-      pub turns-done : (x : Effect) → (e .kind ≡ 10 → ⊥) → x ≡ act (v .call) e (v .identifier) → Done x ≡ turnOf s e v
-      turns-done x o a = turns-there x (there o) a
 
       -- a divert that is not refused is within the limit, so its counter has room for one more
       pub room : s .limit < 256 → e .kind ≡ 6 → v .call .counter < 255
@@ -121,37 +101,48 @@ module _ (s : Station) (e : Event) (v : Seen) where
 abbrev numberIn : Turn → ℕ
 numberIn (Refused code) = code
 numberIn NoneDue = 0
-numberIn (Done x) = 0
+numberIn Done = 0
 
 abbrev isRefused : Turn → Bool
 isRefused (Refused code) = true
 isRefused NoneDue = false
-isRefused (Done x) = false
+isRefused Done = false
 
 abbrev isDone : Turn → Bool
 isDone (Refused code) = false
 isDone NoneDue = false
-isDone (Done x) = true
+isDone Done = true
 
 module _ (s : Station) (e : Event) (v : Seen) where
-  either-way : (b : Bool) (x : Effect) → isRefused (when b then NoneDue else Done x) ≡ false
-  either-way true x = refl
-  either-way false x = refl
+  either-way : (b : Bool) → isRefused (when b then NoneDue else Done) ≡ false
+  either-way true = refl
+  either-way false = refl
 
   -- a refusal has a number
   pub refused-number : (code : ℕ) → turnOf s e v ≡ Refused code → code ≡ 0 → ⊥
   unfolding turnOf
   refused-number code q z =
       by-cases (eqb (numberOf s e v) 0)
-      (λ t. false≢true (sym (either-way (beyond v) (act (v .call) e (v .identifier))) ∙ ap isRefused (rw t at q)))
+      (λ t. false≢true (sym (either-way (beyond v)) ∙ ap isRefused (rw t at q)))
       (λ f. let n : numberOf s e v ≡ code = ap numberIn (rw f at q) in eqb-false (numberOf s e v) 0 f (n ∙ z))
 
   -- what is done on a record is done on one of the table
-  pub done-there : (x : Effect) → turnOf s e v ≡ Done x → v .place < v .len
+  pub done-there : turnOf s e v ≡ Done → v .place < v .len
   unfolding turnOf
-  done-there x q =
+  done-there q =
       by-cases (eqb (numberOf s e v) 0) (λ t.
       by-cases (beyond v)
       (λ b. absurd (false≢true (ap isDone (rw (t, b) at q))))
       (λ b. leb-false (v .len) (v .place) b))
       (λ f. absurd (false≢true (ap isDone (rw f at q))))
+
+  done-passes : turnOf s e v ≡ Done → 0 ≡ numberOf s e v
+  unfolding turnOf
+  done-passes q = by-cases (eqb (numberOf s e v) 0) (λ t. sym (eqb-true (numberOf s e v) 0 t)) (λ f. absurd (false≢true (ap isDone (rw f at q))))
+
+  -- and has a rule
+  pub done-doable : turnOf s e v ≡ Done → s .limit < 256 → doable e v
+  done-doable q l =
+      let n = done-passes q in
+      let w = made s e v 0 n refl in
+      (kind-low e w, kind-high e w, room s e v 0 n refl l)

@@ -7,9 +7,10 @@ use lib.Dec.{ltb, leb, eqb}
 use lib.ListN.{length, set}
 use Rattle.ground.specs.Choice.{when_then_else_}
 use Rattle.event.specs.declared.Event.{Event}
-use Rattle.event.specs.Kinds.{OpenOutgoing, UserAlerted, Clock, opens, ofIncoming, ofOutgoing, ends, clock, diverts}
+use Rattle.event.specs.Kinds.{OpenOutgoing, UserAlerted, DivertCall, Clock, opens, ofIncoming, ofOutgoing, ends, clock, diverts}
 use Rattle.identifier.specs.Identifier.{after}
 use Rattle.call.specs.declared.Call.{Call}
+use Rattle.call.specs.declared.Effect.{Effect}
 use Rattle.call.specs.State.{stateForbids}
 use Rattle.call.specs.Act.{act}
 use Rattle.station.specs.declared.Station.{Station}
@@ -58,7 +59,15 @@ unfoldable pub turnOf : Station → Event → Seen → Turn
 turnOf s e v =
     when not (eqb (numberOf s e v) 0) then Refused (numberOf s e v) else
     when beyond v then NoneDue else
-    Done (act (v .call) e (v .identifier))
+    Done
+
+-- what an event that is done does to the record at its place
+abbrev pub actedOf : Event → Seen → Effect
+actedOf e v = act (v .call) e (v .identifier)
+
+-- what is done has a kind of the page's table, and a divert is within the limit, so that its counter has room for one more
+abbrev pub doable : Event → Seen → Type 0
+doable e v = (1 ≤ e .kind) × (e .kind ≤ 15) × (e .kind ≡ DivertCall → v .call .counter < 255)
 
 -- one event on any table
 unfoldable pub decidedOf : Station → List Call → Event → Turn
@@ -72,7 +81,11 @@ stationOn s e identifier = record { last = e .time; next = when diverts e then a
 abbrev pub outcomeOf : Station → List Call → Event → Seen → Turn → Outcome
 outcomeOf s calls e v (Refused code) = refused s calls code
 outcomeOf s calls e v NoneDue = record { answer = emptyAnswer 0; station = stationOn s e (v .identifier); calls = calls }
-outcomeOf s calls e v (Done x) = record { answer = answerOf (v .place) x; station = stationOn s e (v .identifier); calls = set calls (v .place) (x .call) }
+outcomeOf s calls e v Done = record {
+  answer = answerOf (v .place) (actedOf e v);
+  station = stationOn s e (v .identifier);
+  calls = set calls (v .place) (actedOf e v .call);
+}
 
 -- what is seen of a table tells enough: past the end any place will do, and any record; only a divert needs an identifier
 pub record Sees (s : Station) (calls : List Call) (e : Event) (v : Seen) : Type 0 where

@@ -3,7 +3,7 @@
 ghost use mathlib.Core.Path.{_≡_};
 ghost use Prim.Native.Nat.{ℕ, _≤_};
 ghost use Rattle.station.specs.Step.{answerOf};
-ghost use Rattle.turn.specs.Turn.{placeOf, noRecord, numberOf, turnOf, stationOn};
+ghost use Rattle.turn.specs.Turn.{placeOf, noRecord, numberOf, turnOf, actedOf, doable, stationOn};
 use call::Call;
 use call::Effect;
 use event::Event;
@@ -20,11 +20,11 @@ pub struct Seen {
 }
 
 // What becomes of an event: refused, by its number; done with no call, where a clock event finds none due; done on the
-// record at its place.
+// record at its place, as `acted` says.
 pub enum Turn {
     Refused(u8),
     NoneDue,
-    Done(Effect),
+    Done,
 }
 
 // Where an event acts, given the lowest free place and the lowest due one.
@@ -53,7 +53,7 @@ fn no_record(kind: u8) -> u8
 }
 
 // Numbers 3 to 8; 0 is done. Tested in the page's order from 3 to 7; 8 is given where 4 is, by the kind: an open has none of 4
-// to 7. The kind comes by itself: as a literal it lets the compiler make each arm of `turned` a test of its own.
+// to 7. The kind comes by itself: as a literal it lets the compiler make each arm of `number_by_kind` a test of its own.
 fn number(kind: u8, s: Station, e: Event, seen: Seen) -> u8
     requires { ⌜ (kind ≡ e .kind) × (s .last ≤ e .time) ⌝ }
     ensures { λ r. ⌜ r ≡ numberOf s e seen ⌝ }
@@ -80,141 +80,119 @@ fn number(kind: u8, s: Station, e: Event, seen: Seen) -> u8
     0
 }
 
-// One event where the table was found sound. Each arm returns, so that it stores its own result.
+// The number by the event's kind, a literal in each arm.
+fn number_by_kind(s: Station, e: Event, seen: Seen) -> u8
+    requires { ⌜ s .last ≤ e .time ⌝ }
+    ensures { λ r. ⌜ r ≡ numberOf s e seen ⌝ }
+{
+    let kind = e.kind;
+    match kind {
+        1 => number(1, s, e, seen),
+        2 => number(2, s, e, seen),
+        3 => number(3, s, e, seen),
+        4 => number(4, s, e, seen),
+        5 => number(5, s, e, seen),
+        6 => number(6, s, e, seen),
+        7 => number(7, s, e, seen),
+        8 => number(8, s, e, seen),
+        9 => number(9, s, e, seen),
+        10 => number(10, s, e, seen),
+        11 => number(11, s, e, seen),
+        12 => number(12, s, e, seen),
+        13 => number(13, s, e, seen),
+        14 => number(14, s, e, seen),
+        15 => number(15, s, e, seen),
+        _ => 3,
+    }
+}
+
+// One event where the table was found sound.
 pub fn turned(s: Station, e: Event, seen: Seen) -> Turn
     ensures { λ r. ⌜ r ≡ turnOf s e seen ⌝ }
 {
-    let kind = e.kind;
-    let c = seen.call;
     if e.time < s.last {
         return Turn::Refused(2);
     }
+    let code = number_by_kind(s, e, seen);
+    if code == 0 {
+        if seen.len <= seen.place {
+            return Turn::NoneDue;
+        }
+        return Turn::Done;
+    }
+    Turn::Refused(code)
+}
+
+// What an event that is done does to the record at its place. Each arm returns, so that it stores its own result.
+pub fn acted(e: Event, seen: Seen) -> Effect
+    requires { ⌜ doable e seen ⌝ }
+    ensures { λ r. ⌜ r ≡ actedOf e seen ⌝ }
+{
+    let kind = e.kind;
+    let c = seen.call;
     match kind {
         // "1 open outgoing"
         1 => {
-            let code = number(1, s, e, seen);
-            if code == 0 {
-                return Turn::Done(message::silent(outgoing::opened_outgoing(e)));
-            }
-            return Turn::Refused(code);
+            return message::silent(outgoing::opened_outgoing(e));
         }
         // "2 open incoming"
         2 => {
-            let code = number(2, s, e, seen);
-            if code == 0 {
-                return Turn::Done(message::silent(incoming::opened_incoming(e)));
-            }
-            return Turn::Refused(code);
+            return message::silent(incoming::opened_incoming(e));
         }
         // "3 open incoming with divertingLegInformation2 (DLI2)"
         3 => {
-            let code = number(3, s, e, seen);
-            if code == 0 {
-                return Turn::Done(message::silent(incoming::opened_incoming(e)));
-            }
-            return Turn::Refused(code);
+            return message::silent(incoming::opened_incoming(e));
         }
         // "4 user alerted"
         4 => {
-            let code = number(4, s, e, seen);
-            if code == 0 {
-                return Turn::Done(incoming::alerted(c));
-            }
-            return Turn::Refused(code);
+            return incoming::alerted(c);
         }
         // "5 user answers"
         5 => {
-            let code = number(5, s, e, seen);
-            if code == 0 {
-                return Turn::Done(incoming::answered(c, e));
-            }
-            return Turn::Refused(code);
+            return incoming::answered(c, e);
         }
         // "6 divert"
         6 => {
-            let code = number(6, s, e, seen);
-            if code == 0 {
-                return Turn::Done(incoming::diverted(c, e, seen.identifier));
-            }
-            return Turn::Refused(code);
+            return incoming::diverted(c, e, seen.identifier);
         }
         // "7 callRerouting result"
         7 => {
-            let code = number(7, s, e, seen);
-            if code == 0 {
-                return Turn::Done(incoming::granted(c));
-            }
-            return Turn::Refused(code);
+            return incoming::granted(c);
         }
         // "8 callRerouting error or reject"
         8 => {
-            let code = number(8, s, e, seen);
-            if code == 0 {
-                return Turn::Done(incoming::rejected(c));
-            }
-            return Turn::Refused(code);
+            return incoming::rejected(c);
         }
         // "9 cfnrDivertedLegFailed received"
         9 => {
-            let code = number(9, s, e, seen);
-            if code == 0 {
-                return Turn::Done(incoming::rejected(c));
-            }
-            return Turn::Refused(code);
+            return incoming::rejected(c);
         }
-        // "10 clock": with none due it is done too
+        // "10 clock"
         10 => {
-            let code = number(10, s, e, seen);
-            if code == 0 {
-                if seen.len <= seen.place {
-                    return Turn::NoneDue;
-                }
-                return Turn::Done(incoming::expired(c));
-            }
-            return Turn::Refused(code);
+            return incoming::expired(c);
         }
         // "11 own side ends the call"
         11 => {
-            let code = number(11, s, e, seen);
-            if code == 0 {
-                return Turn::Done(legs::ended(c));
-            }
-            return Turn::Refused(code);
+            return legs::ended(c);
         }
         // "12 callRerouting invoke received"
         12 => {
-            let code = number(12, s, e, seen);
-            if code == 0 {
-                return Turn::Done(outgoing::rerouted(c, e));
-            }
-            return Turn::Refused(code);
+            return outgoing::rerouted(c, e);
         }
         // "13 divertingLegInformation1 (DLI1) received"
         13 => {
-            let code = number(13, s, e, seen);
-            if code == 0 {
-                return Turn::Done(outgoing::informed(c, e));
-            }
-            return Turn::Refused(code);
+            return outgoing::informed(c, e);
         }
         // "14 message on an outgoing call"
         14 => {
-            let code = number(14, s, e, seen);
-            if code == 0 {
-                return Turn::Done(legs::messaged(c, e));
-            }
-            return Turn::Refused(code);
+            return legs::messaged(c, e);
         }
         // "15 far end ends an incoming call"
         15 => {
-            let code = number(15, s, e, seen);
-            if code == 0 {
-                return Turn::Done(message::freed());
-            }
-            return Turn::Refused(code);
+            return message::freed();
         }
         _ => {
-            return Turn::Refused(3);
+            return legs::ended(c);
         }
     }
 }

@@ -28,6 +28,7 @@ use denote.Triple.Statement.{Contract}
 use denote.Triple.Clauses.{ensured, lasts}
 use denote.Triple.Walked.{says}
 use Rattle.call.specs.declared.Call.{Call}
+use Rattle.call.proofs.Call.Laws as S′
 use Rattle.lent.specs.declared.Input.{Input}
 use Rattle.lent.specs.declared.Decision.{Decision}
 use Rattle.lent.specs.Lent.{decisionOn}
@@ -38,7 +39,7 @@ use Rattle.lent.proofs.Decision.Laws as D′
 use Rattle.lent.proofs.Reply as N
 use Rattle.lent.proofs.Reply.Laws as N′
 use Rattle.lent.proofs.looked as looked
-use Rattle.slice.proofs.Row.{R, vals, makes}
+use Rattle.slice.proofs.Row.{R, makes, is-lowered}
 use Rattle.slice.proofs.settle as settle
 
 -- ---- with no model
@@ -52,8 +53,8 @@ is-place t u it = LL.owed D.the-type D′.the-laws t (u ∷ []) it .1 .0 .1
 pub is-count : (t : Decision) (u : Val) → Is D.the-row t (u ∷ []) → t .count < 2 ^ 64
 is-count t u it = LL.owed D.the-type D′.the-laws t (u ∷ []) it .1 .1 .0 .1
 
-pub is-call : (t : Decision) (u : Val) → Is D.the-row t (u ∷ []) → Is R (t .call) (vals (t .call))
-is-call t u it = LL.owed D.the-type D′.the-laws t (u ∷ []) it .1 .1 .1 .0
+pub is-call : (t : Decision) (u : Val) → Is D.the-row t (u ∷ []) → Is R (t .call) (S′.lowered (t .call) ∷ [])
+is-call t u it = is-lowered (t .call) (LL.owed D.the-type D′.the-laws t (u ∷ []) it .1 .1 .1 .0)
 
 -- the slice at (b, o) under the name δ at the list l
 abbrev pub slice-at : ℕ → ℕ → GName → List Call → RefT (List Call)
@@ -73,7 +74,7 @@ module _ {M : Type 1} (𝓤 : URA M) (H : Heap 𝓤) (A : Atoms 𝓤) (mem : Mem
   to-look κ q b o δ ys input = (((κ, tt), (q, tt), tt, (slice-at b o δ ys, (input, tt)), (sliceVal (b, o) (length ys) ∷ [], (I′.lowered input ∷ [], tt))), tt)
 
   abbrev pub to-settle : Lft → Share → ℕ → ℕ → GName → List Call → ℕ → ℕ → Call → Settle .Ghost
-  to-settle κ q b o δ ys p k c = (((κ, tt), (q, tt), tt, (slice-at b o δ ys, (p, (k, (c, tt)))), (sliceVal (b, o) (length ys) ∷ [], (vint w64 p ∷ [], (vint w64 k ∷ [], (vals c, tt))))), tt)
+  to-settle κ q b o δ ys p k c = (((κ, tt), (q, tt), tt, (slice-at b o δ ys, (p, (k, (c, tt)))), (sliceVal (b, o) (length ys) ∷ [], (vint w64 p ∷ [], (vint w64 k ∷ [], (S′.lowered c ∷ [], tt))))), tt)
 
   module _ (W : Given 𝓤 H A) where
     pub goes-look : (κ : Lft) (q : Share) (b o : ℕ) (δ : GName) (ys : List Call) (input : Input) → Is I.the-row input (I′.lowered input ∷ [])
@@ -83,9 +84,9 @@ module _ {M : Type 1} (𝓤 : URA M) (H : Heap 𝓤) (A : Atoms 𝓤) (mem : Mem
         nothing ! $ owned ! I.the-row (Is I.the-row) (LL.makes I.the-type I′.the-plain 𝓤 H A) input (I′.lowered input ∷ []) gi $ fjoin ! $ move ! (1 ∷ 0 ∷ []) $ fjoin ! $
         nothing ! $ move ! (2 ∷ 0 ∷ []) $ join ! $ join ! $ frame ! $ done !
 
-    pub goes-settle : (κ : Lft) (q : Share) (b o : ℕ) (δ : GName) (ys : List Call) (p k : ℕ) (c : Call) → p < 2 ^ 64 → k < 2 ^ 64 → Is R c (vals c) → p + k ≤ length ys
+    pub goes-settle : (κ : Lft) (q : Share) (b o : ℕ) (δ : GName) (ys : List Call) (p k : ℕ) (c : Call) → p < 2 ^ 64 → k < 2 ^ 64 → Is R c (S′.lowered c ∷ []) → p + k ≤ length ys
         → ent 𝓤 (sep 𝓤 (A .lft κ q) (sem 𝓤 H A (MutSlice (named 0) κ R .own (slice-at b o δ ys) (sliceVal (b, o) (length ys) ∷ [])))) (Settle .pre (to-settle κ q b o δ ys p k c))
     goes-settle κ q b o δ ys p k c gp gk gc ok =
         qed W (‵ (flft κ q) ∷ ‵ (MutSlice (named 0) κ R .own (slice-at b o δ ys) (sliceVal (b, o) (length ys) ∷ [])) ∷ []) ∵ says ! ok $ nothing ! $ move ! (1 ∷ 0 ∷ []) $ join ! $ frame ! $
-        nothing ! $ owned ! R (Is R) (makes 𝓤 H A) c (vals c) gc $ fjoin ! $ owned ! usize (Is usize) (uint-makes 𝓤 H A W w64) k (vint w64 k ∷ []) (refl, gk) $ fjoin ! $
+        nothing ! $ owned ! R (Is R) (makes 𝓤 H A) c (S′.lowered c ∷ []) gc $ fjoin ! $ owned ! usize (Is usize) (uint-makes 𝓤 H A W w64) k (vint w64 k ∷ []) (refl, gk) $ fjoin ! $
         owned ! usize (Is usize) (uint-makes 𝓤 H A W w64) p (vint w64 p ∷ []) (refl, gp) $ fjoin ! $ move ! (1 ∷ 0 ∷ []) $ fjoin ! $ done !

@@ -4,4 +4,4 @@
 use Prim.Native.Nat.{ℕ}
 
 abbrev pub format : ℕ
-format = 1
+format = 2

@@ -101,6 +101,14 @@ impl Comparison<'_> {
         None
     }
 
+    /// A list of events from a board.
+    pub fn list(&self, name: &str, start: &Board, events: &[Event]) -> Result<(), String> {
+        match self.over_list(start, events) {
+            Some(_) => Err(self.report_list(name, start, events)),
+            None => Ok(()),
+        }
+    }
+
     /// A walk of a profile from a board, as `over_list` while it is made.
     pub fn walk(
         &self,

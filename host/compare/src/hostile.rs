@@ -2,11 +2,12 @@
 //! that are sound but for one bit.
 
 use crate::wire::Board;
-use model::codes::MOST_RECORDS;
+use model::codes::*;
 use model::lent::{self, Case};
 use model::random::Random;
-use model::record::{COUNT, FIELDS};
-use model::{Event, Record, Station};
+use model::record::{COUNT, FIELDS, PLAIN};
+use model::waits::MOST_LATER;
+use model::{forwarding, Dli1, Event, Record, Station};
 
 /// Any value in every field, small ones as often as others.
 fn any_record(random: &mut Random) -> Record {
@@ -32,7 +33,9 @@ fn any_station(random: &mut Random) -> Station {
 /// One bit of one field turned over.
 fn bit_turned(random: &mut Random, record: Record) -> Record {
     let mut values = record.values();
-    let field = random.below(COUNT as u64) as usize;
+    // Most fields are those of what waits: every other time none of them.
+    let fields = random.pick(&[PLAIN, COUNT]);
+    let field = random.below(fields as u64) as usize;
     values[field] ^= 1 << random.below(u64::from(FIELDS[field].1));
     Record::from_values(&values)
 }
@@ -50,7 +53,7 @@ fn place<'a>(random: &mut Random, table: &'a mut [Record]) -> &'a mut Record {
 
 /// Damages a table or its station, mostly: some of it is sound still.
 fn damage(random: &mut Random, table: &mut [Record], station: &mut Station) {
-    match random.below(8) {
+    match random.below(10) {
         _ if table.is_empty() => *station = any_station(random),
         0 => *station = any_station(random),
         1 => station.limit = random.draw() as u8,
@@ -59,6 +62,14 @@ fn damage(random: &mut Random, table: &mut [Record], station: &mut Station) {
         4 => {
             let copied = *place(random, table);
             *place(random, table) = copied;
+        }
+        5 => {
+            let wrong = wrong_waits(random);
+            *place(random, table) = random.pick(&wrong);
+        }
+        6 => {
+            let record = place(random, table);
+            forwarding::damage(random, &mut record.waits);
         }
         _ => {
             let turned = place(random, table);
@@ -136,24 +147,95 @@ fn edges(width: u32, station: &Station) -> Vec<u64> {
     }
 }
 
-/// Three sound records, with each edge of each field of the middle one in turn.
+/// A sound call in Invoked.
+fn invoked(random: &mut Random) -> Record {
+    let mut records = std::iter::repeat_with(|| lent::outgoing(random));
+    let found = records.find(Record::is_invoked);
+    found.expect("one is in Invoked sooner or later")
+}
+
+/// Those of one place behind the first, in use or not, that are not sound.
+fn wrong_places(record: &Record, at: usize) -> Vec<Record> {
+    let used = at < usize::from(record.waits.count);
+    let place = record.waits.later[at];
+    let with = |place: Dli1| {
+        let mut wrong = *record;
+        wrong.waits.later[at] = place;
+        wrong
+    };
+    let (reasons, options, numbers): ([u8; 4], [u8; 4], &[u16]) = match used {
+        true => ([UNKNOWN, CFNR, 4, 255], [3, 4, 128, 255], &[0]),
+        false => ([CFU, CFB, CFNR, 255], [1, 2, 3, 255], &[1, 256, 65_535]),
+    };
+    let reasons = reasons.map(|reason| with(Dli1 { reason, ..place }));
+    let options = options.map(|option| with(Dli1 { option, ..place }));
+    let numbers = numbers.iter().map(|&number| with(Dli1 { number, ..place }));
+    reasons.into_iter().chain(options).chain(numbers).collect()
+}
+
+/// A call in Invoked of which one number that waits is not sound, in each way,
+/// and what waits in records that are not in Invoked.
+fn wrong_waits(random: &mut Random) -> Vec<Record> {
+    let sound = invoked(random);
+    let mut wrong = vec![sound; 17];
+    for (record, count) in wrong.iter_mut().zip([15, 16, 127, 128, 255]) {
+        record.waits.count = count;
+    }
+    let one_off = [sound.waits.count.wrapping_sub(1), sound.waits.count + 1];
+    for (record, count) in wrong[5..].iter_mut().zip(one_off) {
+        record.waits.count = count;
+    }
+    for (record, reason) in wrong[7..].iter_mut().zip([UNKNOWN, CFU, CFB, 4]) {
+        record.waits.first.reason = reason;
+    }
+    wrong[11].waits.first.option = 3;
+    wrong[12].waits.first.number = 0;
+    for (record, basic) in wrong[13..].iter_mut().zip([PROCEEDING, ACTIVE]) {
+        (record.basic, record.cdr) = (basic, IDLE);
+    }
+    wrong[15].cdr = IDLE;
+    wrong[16] = Record {
+        waits: sound.waits,
+        ..Record::default()
+    };
+    wrong.push(Record {
+        waits: sound.waits,
+        ..lent::incoming(random, u64::MAX, 1)
+    });
+    wrong.extend((0..MOST_LATER).flat_map(|at| wrong_places(&sound, at)));
+    wrong
+}
+
+/// The table with another middle record, and an event for it.
+fn with_middle(random: &mut Random, table: &[Record], station: Station, record: Record) -> Case {
+    let mut table = table.to_vec();
+    table[1] = record;
+    let event = lent::event(random, &table, &station);
+    Case {
+        table,
+        station,
+        event,
+    }
+}
+
+/// Three sound records, with each edge of each field of the middle one in turn,
+/// which is in Invoked more often than others; and with each wrong one above.
 pub fn at_every_edge(random: &mut Random) -> Vec<Case> {
     let station = lent::station(random);
-    let table = lent::table(random, 3, &station);
-    let mut cases = Vec::new();
+    let mut table = lent::table(random, 3, &station);
+    if random.chance(40) {
+        table[1] = invoked(random);
+    }
+    let mut records = wrong_waits(random);
     for (field, (_, width)) in FIELDS.into_iter().enumerate() {
         for edge in edges(width, &station) {
-            let mut table = table.clone();
             let mut values = table[1].values();
             values[field] = edge;
-            table[1] = Record::from_values(&values);
-            let event = lent::event(random, &table, &station);
-            cases.push(Case {
-                table,
-                station,
-                event,
-            });
+            records.push(Record::from_values(&values));
         }
     }
-    cases
+    records
+        .into_iter()
+        .map(|record| with_middle(random, &table, station, record))
+        .collect()
 }

@@ -3,16 +3,17 @@
 use crate::wire::{Answer, Board, Message, Ran, Rehearsed, Stepped};
 use crate::{plans, tables::Told};
 use model::codes::MOST_RECORDS;
-use model::{Event, Record, Station};
+use model::waits::MOST_LATER;
+use model::{Dli1, Event, Record, Station, Waits};
 
 /// Sizes of the structs in bytes.
 pub const EVENT: usize = 24;
 pub const STATION: usize = 16;
-pub const CALL: usize = 40;
-pub const BOARD: usize = 2584;
+pub const CALL: usize = 96;
+pub const BOARD: usize = 6168;
 pub const MADE: usize = 24;
 pub const READ: usize = 32;
-pub const RAN: usize = 2608;
+pub const RAN: usize = 6192;
 pub const ANSWER: usize = 64;
 pub const REHEARSED: usize = 6;
 
@@ -43,17 +44,25 @@ pub fn put_event(out: &mut Vec<u8>, e: &Event) {
     out.extend(e.time.to_le_bytes());
 }
 
+fn put_dli1(out: &mut Vec<u8>, d: &Dli1) {
+    out.extend([d.reason, d.option]);
+    twos(out, &[d.number]);
+}
+
 pub fn put_call(out: &mut Vec<u8>, r: &Record) {
+    let before = out.len();
     out.extend([r.direction, r.basic, r.cdo, r.cdr]);
     out.extend([r.cds, r.cdf, r.granted, r.counter]);
+    out.extend(r.start.to_le_bytes());
     twos(out, &[r.leg1]);
-    out.extend([r.waiting_reason, r.waiting_option]);
-    twos(out, &[r.leg2]);
     out.extend([r.seen, r.strictest, r.forbidden, r.shown]);
     twos(out, &[r.nominated]);
     twos(out, &[r.own, r.diverting, r.original, r.identifier]);
-    out.extend([r.reason, PADDING, PADDING, PADDING]);
-    out.extend(r.start.to_le_bytes());
+    out.extend([r.reason, PADDING]);
+    put_dli1(out, &r.waits.first);
+    out.extend([r.waits.count, PADDING]);
+    r.waits.later.iter().for_each(|later| put_dli1(out, later));
+    assert_eq!(out.len() - before, CALL);
 }
 
 pub fn put_station(out: &mut Vec<u8>, s: &Station) {
@@ -143,23 +152,38 @@ impl Reader<'_> {
         (whole, self.event())
     }
 
+    fn dli1(&mut self) -> Dli1 {
+        let [reason, option] = self.take();
+        Dli1 {
+            reason,
+            option,
+            number: self.two(),
+        }
+    }
+
+    fn waits(&mut self) -> Waits {
+        let first = self.dli1();
+        let [count, _] = self.take();
+        Waits {
+            first,
+            count,
+            later: [(); MOST_LATER].map(|()| self.dli1()),
+        }
+    }
+
     pub fn call(&mut self) -> Record {
         let [direction, basic, cdo, cdr, cds, cdf, granted, counter] = self.take();
+        let start = self.eight();
         let leg1 = self.two();
-        let [waiting_reason, waiting_option] = self.take();
-        let leg2 = self.two();
         let [seen, strictest, forbidden, shown] = self.take();
         let [nominated, own, diverting, original, identifier] = [(); 5].map(|()| self.two());
-        let [reason, ..]: [u8; 4] = self.take();
+        let [reason, _] = self.take();
         Record {
             direction,
             basic,
             cdo,
             cdr,
             leg1,
-            leg2,
-            waiting_option,
-            waiting_reason,
             seen,
             strictest,
             forbidden,
@@ -173,8 +197,9 @@ impl Reader<'_> {
             original,
             reason,
             identifier,
-            start: self.eight(),
+            start,
             granted,
+            waits: self.waits(),
         }
     }
 

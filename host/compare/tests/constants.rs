@@ -7,6 +7,7 @@ use compare::headers::{self, Named};
 use compare::wire::{Answer, Rehearsed};
 use compare::{Archive, Engine};
 use model::plan::{Ending, Rehearsed as Rings, MOST_PANELS};
+use model::waits::MOST_LATER;
 use model::{codes, event, step, text, Event, Record, Station};
 use std::collections::BTreeMap;
 
@@ -70,6 +71,7 @@ fn sizes_and_none() -> Vec<(&'static str, u64)> {
         ("NO_COUNTER", none.counter.into()),
         ("NO_MESSAGE", none.sent[0].letter.into()),
         ("RECORDS", codes::MOST_RECORDS as u64),
+        ("WAITING", 1 + MOST_LATER as u64),
         ("EVENT_BYTES", event::SIZE as u64),
         ("PANELS", MOST_PANELS as u64),
     ]

@@ -180,7 +180,7 @@ fn one_byte_around_a_lent_table() {
     assert_eq!(laid.fault(&told, &step), None);
     for at in [0, 1, told.after.len() - 2, told.after.len() - 1] {
         let mut touched = told.clone();
-        touched.after[at][29] ^= 1;
+        touched.after[at][33] ^= 1;
         assert!(laid.fault(&touched, &step).is_some());
     }
 }

@@ -37,7 +37,7 @@ fn header(archive: Archive) -> BTreeMap<String, Layout> {
             structs.insert(current.clone(), (number(1), Vec::new()));
         }
     }
-    assert_eq!(structs.len(), 14, "{structs:?}");
+    assert_eq!(structs.len(), 15, "{structs:?}");
     structs
 }
 
@@ -197,9 +197,10 @@ fn touched(body: &str) -> Vec<(usize, Places)> {
 /// A function that stores or copies each field of a struct by itself. Structs of
 /// structs have none: of those some function touches every field, perhaps in
 /// parts, and nothing across two fields.
-const PLACES: [(&str, &str); 10] = [
+const PLACES: [(&str, &str); 11] = [
     ("event", "whipsail::no_event"),
-    ("dli1", "call::free_call"),
+    ("dli1", "waits::no_waits"),
+    ("waits", "waits::no_waits"),
     ("history", "call::free_call"),
     ("call", "call::free_call"),
     ("station", "station::fresh_short"),

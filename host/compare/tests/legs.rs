@@ -4,20 +4,21 @@
 
 use compare::headers;
 use model::text;
-use whipsail::{Answer, Call, Event, Leg, Number, Refusal, Station};
+use whipsail::{Answer, Call, Event, Leg, Number, Refusal, Station, MOST_WAITING};
 
-/// What brings an opened call there. Its party is 101, and that on leg 2 is 202.
-const STATES: [(&str, &[&str]); 4] = [
-    ("Proceeding", &[]),
-    ("Delivered", &["message call 0 leg 1 alerting"]),
-    ("Active", &["message call 0 leg 1 connect"]),
-    (
-        "Invoked",
-        &[
-            "message call 0 leg 1 alerting",
-            "reroute call 0 leg 1 cfnr counter 1 id 9 to 202",
-        ],
-    ),
+const RINGS: &str = "message call 0 leg 1 alerting";
+const CFNR: &str = "reroute call 0 leg 1 cfnr counter 1 id 9 to 202";
+const ON: &str = "reroute call 0 leg 2 cfu counter 1 id 9 to 202";
+
+/// Each state, and what brings an opened call there, its last event so often. The
+/// call's party is 101, and that on leg 2 is 202.
+const STATES: [(&str, &[&str], usize); 6] = [
+    ("Proceeding", &[], 1),
+    ("Delivered", &[RINGS], 1),
+    ("Active", &["message call 0 leg 1 connect"], 1),
+    ("Invoked (room)", &[RINGS, CFNR], 1),
+    ("Invoked (room)", &[RINGS, CFNR, ON], MOST_WAITING - 2),
+    ("Invoked (full)", &[RINGS, CFNR, ON], MOST_WAITING - 1),
 ];
 
 /// Each event as the table names it; one that uses a leg has it for `LEG`. A SETUP
@@ -58,14 +59,15 @@ impl Panel {
         self.station.step(&mut self.table, &event)
     }
 
-    fn in_state(before: &[&str], diverted: bool) -> Panel {
+    fn in_state(before: &[&str], times: usize, diverted: bool) -> Panel {
         let (table, station) = ([Call::FREE], Station::short());
         let mut panel = Panel { table, station };
         let dli1 = diverted.then_some("dli1 call 0 cfu to 300");
+        let again = before.last().into_iter().cycle().take(times - 1);
         for line in ["open outgoing 101"]
             .into_iter()
             .chain(dli1)
-            .chain(before.iter().copied())
+            .chain(before.iter().chain(again).copied())
         {
             assert!(panel.meet(line).is_ok(), "{line}");
         }
@@ -116,7 +118,8 @@ fn then(words: &str, before: Legs) -> Legs {
     }
 }
 
-/// Whether a row is about this event, on this leg and in this state.
+/// Whether a row is about this event, on this leg and in this state; `Invoked` is that
+/// with room and that which is full.
 fn is_about(row: &[String], event: &str, leg: &str, state: &str) -> bool {
     let [events, legs, places, ..] = row else {
         panic!("{row:?}");
@@ -124,9 +127,10 @@ fn is_about(row: &[String], event: &str, leg: &str, state: &str) -> bool {
     let (kind, reasons) = events.split_once(' ').unwrap_or((events, ""));
     let (this, reason) = event.split_once(' ').unwrap_or((event, ""));
     let named = |list: &str, word: &str| list.split(", ").any(|one| one == word);
+    let (plain, _) = state.split_once(' ').unwrap_or((state, ""));
     let there = match places.strip_prefix("all but ") {
-        Some(but) => !named(but, state),
-        None => named(places, state),
+        Some(but) => !named(but, plain),
+        None => named(places, plain) || named(places, state),
     };
     kind == this && (reasons.is_empty() || named(reasons, reason)) && legs == leg && there
 }
@@ -147,9 +151,9 @@ fn sent(answer: &Answer) -> String {
 fn the_table_of_legs_is_what_the_library_does() {
     let header = headers::text("whipsail_answer.h");
     let rows = headers::rows(&header, "event             leg");
-    assert_eq!(rows.len(), 17, "{rows:?}");
+    assert_eq!(rows.len(), 19, "{rows:?}");
     let mut used = vec![0; rows.len()];
-    for (state, before) in STATES {
+    for (state, before, times) in STATES {
         for (event, line) in EVENTS {
             let legs: &[&str] = if line.contains("LEG") {
                 &["1", "2"]
@@ -157,7 +161,7 @@ fn the_table_of_legs_is_what_the_library_does() {
                 &["-"]
             };
             for (leg, diverted) in legs.iter().flat_map(|leg| [(leg, true), (leg, false)]) {
-                let mut panel = Panel::in_state(before, diverted);
+                let mut panel = Panel::in_state(before, times, diverted);
                 let stood = panel.legs();
                 let told = panel.meet(&line.replace("LEG", leg));
                 let about = |row: &Vec<String>| is_about(row, event, leg, state);

@@ -86,6 +86,11 @@ fn second() {
 }
 
 #[test]
+fn chain() {
+    run(Profile::Chain);
+}
+
+#[test]
 fn these_are_all_profiles() {
-    assert_eq!(profile::ALL.len(), 7);
+    assert_eq!(profile::ALL.len(), 8);
 }

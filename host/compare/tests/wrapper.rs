@@ -3,7 +3,7 @@
 
 use compare::memory;
 use model::random::Random;
-use model::{lent, Record};
+use model::{lent, Dli1, Record};
 use whipsail::{Basic, Call, Direction, Number, Reason};
 
 fn read(record: &Record) -> Call {
@@ -12,13 +12,31 @@ fn read(record: &Record) -> Call {
     Call::from_bytes(bytes.try_into().expect("a whole record"))
 }
 
+fn plain(dli1: whipsail::Dli1) -> Dli1 {
+    Dli1 {
+        reason: dli1.reason.number(),
+        option: dli1.option.number(),
+        number: dli1.number.get(),
+    }
+}
+
+/// None waits but in Invoked.
+fn expected_waits(record: &Record) -> Vec<Dli1> {
+    match record.is_invoked() {
+        true => record.waits.in_order(),
+        false => Vec::new(),
+    }
+}
+
 fn same(record: &Record, call: &Call) {
     let number = Number::new;
     assert_eq!(call.is_free(), record.is_free());
     assert_eq!(call.direction(), Direction::of(record.direction));
     assert_eq!(call.basic(), Basic::of(record.basic));
     assert_eq!(call.party(), number(record.leg1));
-    assert_eq!(call.forwarded(), number(record.leg2));
+    assert_eq!(call.forwarded(), number(record.leg2()));
+    let waiting: Vec<Dli1> = call.waiting().map(plain).collect();
+    assert_eq!(waiting, expected_waits(record));
     assert_eq!(call.nominated(), number(record.nominated));
     assert_eq!(call.number_shown(), record.shown == 1);
     assert_eq!(call.own(), number(record.own));

@@ -108,6 +108,7 @@ fn each_name_has_the_headers_number() {
     let rest = [
         ("FORMAT", whipsail::FORMAT.into()),
         ("RECORDS", whipsail::MOST_RECORDS as u64),
+        ("WAITING", whipsail::MOST_WAITING as u64),
         ("PANELS", whipsail::MOST_PANELS as u64),
     ];
     for (name, number) in small.chain(rest) {

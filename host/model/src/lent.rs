@@ -3,9 +3,10 @@
 
 use crate::codes::*;
 use crate::event::Event;
+use crate::forwarding;
 use crate::guided;
 use crate::random::Random;
-use crate::record::{Record, COUNT, FIELDS};
+use crate::record::{Record, COUNT, FIELDS, PLAIN};
 use crate::station::{self, Station};
 
 /// One lent table and station with one event for them.
@@ -34,9 +35,7 @@ pub fn outgoing(random: &mut Random) -> Record {
     }
     if record.basic == DELIVERED && random.chance(60) {
         record.cdr = INVOKED;
-        record.leg2 = random.number();
-        record.waiting_option = random.option();
-        record.waiting_reason = CFNR;
+        record.waits = forwarding::waits(random);
     }
     record
 }
@@ -146,7 +145,7 @@ pub fn damage(random: &mut Random, table: &mut [Record], station: &mut Station) 
     }
     let at = random.below(table.len() as u64) as usize;
     let record = &mut table[at];
-    match random.below(13) {
+    match random.below(16) {
         0..=4 => *record = any_field_changed(random, record),
         5 => record.basic = random.byte(PROCEEDING, ACTIVE),
         6 => record.cdo = 1 - record.cdo.min(1),
@@ -155,6 +154,7 @@ pub fn damage(random: &mut Random, table: &mut [Record], station: &mut Station) 
         9 => record.cdf = random.byte(CDF_NONE, CDF_DONE),
         10 => record.start = station.last_time.saturating_add(1),
         11 => open_identifier_0(table),
+        12..=14 => damage_waits(random, table, at),
         _ => share_identifier(table),
     }
 }
@@ -162,7 +162,9 @@ pub fn damage(random: &mut Random, table: &mut [Record], station: &mut Station) 
 /// Any field, set to an edge of its range or to anything.
 fn any_field_changed(random: &mut Random, record: &Record) -> Record {
     let mut values = record.values();
-    let field = random.below(COUNT as u64) as usize;
+    // Most fields are those of what waits: every other time none of them.
+    let fields = random.pick(&[PLAIN, COUNT]);
+    let field = random.below(fields as u64) as usize;
     let widest = u64::MAX >> (64 - FIELDS[field].1);
     values[field] = match random.below(6) {
         0 => 0,
@@ -173,6 +175,13 @@ fn any_field_changed(random: &mut Random, record: &Record) -> Record {
         _ => random.pick(&[1, 2, 3, 4, 15, 16]),
     };
     Record::from_values(&values)
+}
+
+/// What waits is damaged, in the first call in Invoked from a place on, or in
+/// the one there.
+fn damage_waits(random: &mut Random, table: &mut [Record], from: usize) {
+    let invoked = (from..table.len()).find(|&at| table[at].is_invoked());
+    forwarding::damage(random, &mut table[invoked.unwrap_or(from)].waits);
 }
 
 /// The last open request gets the first one's identifier.
@@ -220,7 +229,8 @@ pub fn event(random: &mut Random, table: &[Record], station: &Station) -> Event 
             kind: CLOCK,
             ..Event::default()
         },
-        4..=7 => guided::any_well_made(random, table),
+        4..=6 => guided::any_well_made(random, table),
+        7 | 8 => forwarding::about_a_call(random, table),
         _ => guided::about_a_call(random, table),
     };
     let event = match random.chance(8) {

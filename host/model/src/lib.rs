@@ -6,6 +6,7 @@
 pub mod answer;
 pub mod codes;
 pub mod event;
+pub mod forwarding;
 pub mod guided;
 pub mod incoming;
 pub mod lent;
@@ -23,9 +24,12 @@ pub mod station;
 pub mod step;
 pub mod text;
 pub mod vectors;
+pub mod waits;
+pub mod ways;
 
 pub use answer::{Answer, Message};
 pub use event::Event;
 pub use record::Record;
 pub use station::Station;
 pub use step::step;
+pub use waits::{Dli1, Waits};

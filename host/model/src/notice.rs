@@ -3,9 +3,15 @@
 
 use crate::codes::*;
 use crate::record::Record;
+use crate::waits::Dli1;
 
 /// A DLI1 reaches the CDO. Hands back the notice.
-pub fn dli1(record: &mut Record, reason: u8, option: u8, nominated: u16) -> Option<u8> {
+pub fn dli1(record: &mut Record, told: Dli1) -> Option<u8> {
+    let Dli1 {
+        reason,
+        option,
+        number,
+    } = told;
     // The first option is taken as it is: the stored 0 is no option yet.
     let first = record.seen == 0;
     record.strictest = if first {
@@ -15,7 +21,7 @@ pub fn dli1(record: &mut Record, reason: u8, option: u8, nominated: u16) -> Opti
     };
     record.cdo = DIVERT;
     record.seen = 1;
-    record.nominated = nominated;
+    record.nominated = number;
     // "after a shown number, a DLI1 with reason cfnr opens the way for
     // another, while all the other conditions still hold" (02, Two)
     if reason == CFNR {
@@ -23,8 +29,8 @@ pub fn dli1(record: &mut Record, reason: u8, option: u8, nominated: u16) -> Opti
     }
     // "The first of a call gives a notice unless its option is 0. A later one
     // gives a notice exactly if its reason is cfnr and no option so far is 0."
-    let told = (first || reason == CFNR) && record.strictest != NO_NOTIFICATION;
-    told.then_some(reason)
+    let tells = (first || reason == CFNR) && record.strictest != NO_NOTIFICATION;
+    tells.then_some(reason)
 }
 
 /// A DLI3 (flag 1 or 2) reaches the CDO. Hands back the number shown.

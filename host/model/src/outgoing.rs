@@ -5,6 +5,7 @@ use crate::codes::*;
 use crate::event::Event;
 use crate::notice;
 use crate::record::Record;
+use crate::waits::{Dli1, Waits};
 
 /// Refusal 5 for the kinds of an outgoing call.
 pub fn refuses(record: &Record, event: &Event) -> bool {
@@ -40,7 +41,7 @@ pub fn act(record: &mut Record, event: &Event) -> Answer {
     match event.kind {
         REROUTE => reroute(record, event),
         DLI1 => Answer {
-            notice: notice::dli1(record, event.reason, event.option, event.second),
+            notice: notice::dli1(record, Dli1::of(event)),
             ..Answer::done(event.call, vec![])
         },
         _ => match event.message {
@@ -56,41 +57,71 @@ pub fn end_messages(record: &Record) -> Vec<Message> {
     legs.map(|leg| Message::plain('X', leg)).collect()
 }
 
+/// Kind 12. Leg 1's invoke is carried out in CDR Idle, leg 2's in Invoked.
 fn reroute(record: &mut Record, event: &Event) -> Answer {
-    // "CDR Invoked, Active, or cfnr outside Delivered: return error on that
-    // leg, the record stays (ours)."
-    let no_reply = event.reason == CFNR;
-    if record.is_invoked() || record.basic == ACTIVE || (no_reply && record.basic != DELIVERED) {
-        let error = Message::echo('E', event.leg, event.identifier);
-        return Answer::done(event.call, vec![error]);
-    }
-    let result = Message::echo('R', 1, event.identifier);
-    if no_reply {
-        // Leg 1 rings on: it is not released before leg 2 takes over.
-        let setup = setup(record, event, 2);
-        record.cdr = INVOKED;
-        record.leg2 = event.second;
-        record.waiting_option = event.option;
-        record.waiting_reason = event.reason;
-        return Answer::done(event.call, vec![result, setup]);
-    }
-    let setup = setup(record, event, 1);
+    let messages = match (record.is_invoked(), event.leg, event.reason) {
+        (true, 2, CFU | CFB) if !record.waits.is_full() => forward_on(record, event),
+        (false, 1, CFU | CFB) if record.basic != ACTIVE => return forward(record, event),
+        (false, 1, CFNR) if record.basic == DELIVERED => invoke(record, event),
+        // "CDR Invoked, Active, or cfnr outside Delivered: return error on
+        // that leg, the record stays (ours)"; "A cfnr invoke on leg 2, a
+        // sixteenth wait, or any invoke on leg 1 in Invoked still gets the
+        // return error" (02, Six)
+        _ => vec![Message::echo('E', event.leg, event.identifier)],
+    };
+    Answer::done(event.call, messages)
+}
+
+/// "return result and RELEASE COMPLETE on leg 1, SETUP with DLI2 to the
+/// destination, now leg 1; Proceeding; DLI1 (reason, option, destination) to
+/// the own CDO"
+fn forward(record: &mut Record, event: &Event) -> Answer {
+    let messages = vec![
+        Message::echo('R', 1, event.identifier),
+        Message::plain('X', 1),
+        setup(record.leg1, event, 1),
+    ];
     record.leg1 = event.second;
     record.basic = PROCEEDING;
     Answer {
-        notice: notice::dli1(record, event.reason, event.option, event.second),
-        ..Answer::done(event.call, vec![result, Message::plain('X', 1), setup])
+        notice: notice::dli1(record, Dli1::of(event)),
+        ..Answer::done(event.call, messages)
     }
 }
 
+/// "return result on leg 1, SETUP with DLI2 on leg 2, Invoked". Leg 1 rings
+/// on: it is not released before leg 2 takes over.
+fn invoke(record: &mut Record, event: &Event) -> Vec<Message> {
+    record.cdr = INVOKED;
+    record.waits = Waits::begun(Dli1::of(event));
+    vec![
+        Message::echo('R', 1, event.identifier),
+        setup(record.leg1, event, 2),
+    ]
+}
+
+/// "result and RELEASE COMPLETE on leg 2, SETUP with DLI2 (its counter, C's
+/// number as diverting number) to the new destination, now leg 2" (02, Six).
+/// Nothing reaches the CDO yet.
+fn forward_on(record: &mut Record, event: &Event) -> Vec<Message> {
+    let diverting = record.leg2();
+    record.waits.add(Dli1::of(event));
+    vec![
+        Message::echo('R', 2, event.identifier),
+        Message::plain('X', 2),
+        setup(diverting, event, 2),
+    ]
+}
+
 /// "DLI2 holds counter, reason, the leg 1 party before the event as diverting
-/// number, and the original called number received."
-fn setup(record: &Record, event: &Event, leg: u8) -> Message {
+/// number, and the original called number received"; of an invoke on leg 2,
+/// that leg's party.
+fn setup(diverting: u16, event: &Event, leg: u8) -> Message {
     Message {
         counter: event.counter,
         reason: event.reason,
         destination: event.second,
-        diverting: record.leg1,
+        diverting,
         original: event.third,
         ..Message::plain('S', leg)
     }
@@ -148,19 +179,20 @@ fn released(record: &mut Record, event: &Event) -> Answer {
     }
 }
 
-/// Leg 2 becomes leg 1 and the waiting DLI1 reaches the CDO. The forwarded
-/// party is the nominated number. Hands back the notice.
+/// Leg 2 becomes leg 1, and the waiting DLI1s are "handed to the own CDO in
+/// order". Hands back the notice: only the first, the cfnr one, can give it.
 fn take_over(record: &mut Record) -> Option<u8> {
-    let (reason, option, party) = (record.waiting_reason, record.waiting_option, record.leg2);
+    let waiting = record.waits.in_order();
+    record.leg1 = record.leg2();
     drop_second_leg(record);
-    record.leg1 = party;
-    notice::dli1(record, reason, option, party)
+    waiting.into_iter().fold(None, |told, dli1| {
+        let notice = notice::dli1(record, dli1);
+        told.or(notice)
+    })
 }
 
-/// CDR Idle; the waiting DLI1 is dropped with the leg.
+/// CDR Idle; "the waiting ones are dropped" with the leg.
 fn drop_second_leg(record: &mut Record) {
     record.cdr = IDLE;
-    record.leg2 = 0;
-    record.waiting_option = 0;
-    record.waiting_reason = 0;
+    record.waits = Waits::default();
 }

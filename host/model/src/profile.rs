@@ -4,6 +4,7 @@
 use crate::answer::Answer;
 use crate::codes::*;
 use crate::event::Event;
+use crate::forwarding;
 use crate::guided;
 use crate::panel;
 use crate::random::Random;
@@ -27,9 +28,12 @@ pub enum Profile {
     Hostile,
     /// Few outgoing calls that live long and show number after number.
     Second,
+    /// Few outgoing calls whose leg 2 is forwarded on, to the fifteenth wait
+    /// and past it.
+    Chain,
 }
 
-pub const ALL: [Profile; 7] = [
+pub const ALL: [Profile; 8] = [
     Profile::Mixed,
     Profile::Deep,
     Profile::Full,
@@ -37,6 +41,7 @@ pub const ALL: [Profile; 7] = [
     Profile::Wrap,
     Profile::Hostile,
     Profile::Second,
+    Profile::Chain,
 ];
 
 /// How a profile chooses; chances are in percent, tried in this order.
@@ -63,6 +68,7 @@ impl Profile {
             Profile::Wrap => "wrap",
             Profile::Hostile => "hostile",
             Profile::Second => "second",
+            Profile::Chain => "chain",
         }
     }
 
@@ -85,6 +91,7 @@ impl Profile {
             Profile::Wrap => taste(0, 0, 3, 1, 60, 64, 0, 1),
             Profile::Hostile => taste(15, 25, 25, 4, 25, 10, 12, 6),
             Profile::Second => taste(0, 0, 1, 1, 30, 4, 0, 1),
+            Profile::Chain => taste(0, 1, 1, 1, 20, 3, 0, 1),
         }
     }
 }
@@ -166,16 +173,18 @@ impl Walk {
                 let event = guided::about_a_call(random, &self.table);
                 guided::open_handed(random, event)
             }
+            Profile::Chain => forwarding::about_a_call(random, &self.table),
             _ => guided::about_a_call(random, &self.table),
         }
     }
 
-    /// Wrap and Clock live on incoming calls, Second on outgoing ones.
+    /// Wrap and Clock live on incoming calls, Second and Chain on outgoing
+    /// ones.
     fn opening(&mut self) -> Event {
         let event = guided::open(&mut self.random);
         let kind = match self.profile {
             Profile::Wrap | Profile::Clock if self.random.chance(80) => OPEN_INCOMING,
-            Profile::Second if self.random.chance(95) => OPEN_OUTGOING,
+            Profile::Second | Profile::Chain if self.random.chance(95) => OPEN_OUTGOING,
             _ => return event,
         };
         Event {

@@ -1,9 +1,11 @@
 //! One call record as plain numbers. Any value may be handed in.
 
 use crate::codes::*;
+use crate::waits::{Dli1, Waits, MOST_LATER};
 
 /// A call record; the first part belongs to outgoing calls, the second to
-/// incoming ones. The codes are in `codes`.
+/// incoming ones, and what waits to outgoing ones again. The codes are in
+/// `codes`.
 #[derive(Clone, Copy, Debug, Default, PartialEq, Eq, Hash)]
 pub struct Record {
     /// 0 free, 1 outgoing, 2 incoming.
@@ -16,11 +18,6 @@ pub struct Record {
     pub cdr: u8,
     /// The party on leg 1.
     pub leg1: u16,
-    /// The forwarded party, in Invoked.
-    pub leg2: u16,
-    /// Option and reason of the DLI1 that waits in Invoked.
-    pub waiting_option: u8,
-    pub waiting_reason: u8,
     /// History: a DLI1 was seen.
     pub seen: u8,
     /// History: the strictest option.
@@ -46,21 +43,24 @@ pub struct Record {
     /// T1 start.
     pub start: u64,
     pub granted: u8,
+
+    /// The DLI1s that wait in Invoked.
+    pub waits: Waits,
 }
 
-/// How many fields a record has.
-pub const COUNT: usize = 23;
+/// Fields before those of what waits.
+pub const PLAIN: usize = 20;
 
-/// Each field's name and width in bits, in the order of `values`.
-pub const FIELDS: [(&str, u32); COUNT] = [
+/// How many fields a record has.
+pub const COUNT: usize = PLAIN + 4 + 3 * MOST_LATER;
+
+/// The fields before those of what waits, with their widths.
+const PLAIN_FIELDS: [(&str, u32); PLAIN] = [
     ("direction", 8),
     ("basic", 8),
     ("cdo", 8),
     ("cdr", 8),
     ("leg1", 16),
-    ("leg2", 16),
-    ("waiting_option", 8),
-    ("waiting_reason", 8),
     ("seen", 8),
     ("strictest", 8),
     ("forbidden", 8),
@@ -78,18 +78,52 @@ pub const FIELDS: [(&str, u32); COUNT] = [
     ("granted", 8),
 ];
 
+/// Those of one DLI1 that waits.
+const DLI1_FIELDS: [(&str, u32); 3] = [
+    ("waiting_reason", 8),
+    ("waiting_option", 8),
+    ("waiting_number", 16),
+];
+
+/// Each field's name and width in bits, in the order of `values`.
+pub const FIELDS: [(&str, u32); COUNT] = {
+    let mut fields = [("count", 8); COUNT];
+    let mut at = 0;
+    while at < COUNT {
+        if at < PLAIN {
+            fields[at] = PLAIN_FIELDS[at];
+        } else if at < PLAIN + 3 {
+            fields[at] = DLI1_FIELDS[at - PLAIN];
+        } else if at > PLAIN + 3 {
+            fields[at] = DLI1_FIELDS[(at - PLAIN - 4) % 3];
+        }
+        at += 1;
+    }
+    fields
+};
+
 impl Record {
-    /// Every field in order, widened.
+    /// Every field in order, widened: the first DLI1 that waits, the count,
+    /// and the places behind it come last.
     pub fn values(&self) -> [u64; COUNT] {
+        let mut values = [0; COUNT];
+        values[..PLAIN].copy_from_slice(&self.plain_values());
+        let three = |dli1: &Dli1| [dli1.reason.into(), dli1.option.into(), dli1.number.into()];
+        values[PLAIN..PLAIN + 3].copy_from_slice(&three(&self.waits.first));
+        values[PLAIN + 3] = self.waits.count.into();
+        for (place, later) in values[PLAIN + 4..].chunks_mut(3).zip(&self.waits.later) {
+            place.copy_from_slice(&three(later));
+        }
+        values
+    }
+
+    fn plain_values(&self) -> [u64; PLAIN] {
         [
             self.direction.into(),
             self.basic.into(),
             self.cdo.into(),
             self.cdr.into(),
             self.leg1.into(),
-            self.leg2.into(),
-            self.waiting_option.into(),
-            self.waiting_reason.into(),
             self.seen.into(),
             self.strictest.into(),
             self.forbidden.into(),
@@ -116,24 +150,22 @@ impl Record {
             cdo: values[2] as u8,
             cdr: values[3] as u8,
             leg1: values[4] as u16,
-            leg2: values[5] as u16,
-            waiting_option: values[6] as u8,
-            waiting_reason: values[7] as u8,
-            seen: values[8] as u8,
-            strictest: values[9] as u8,
-            forbidden: values[10] as u8,
-            shown: values[11] as u8,
-            nominated: values[12] as u16,
-            cds: values[13] as u8,
-            cdf: values[14] as u8,
-            own: values[15] as u16,
-            counter: values[16] as u8,
-            diverting: values[17] as u16,
-            original: values[18] as u16,
-            reason: values[19] as u8,
-            identifier: values[20] as u16,
-            start: values[21],
-            granted: values[22] as u8,
+            seen: values[5] as u8,
+            strictest: values[6] as u8,
+            forbidden: values[7] as u8,
+            shown: values[8] as u8,
+            nominated: values[9] as u16,
+            cds: values[10] as u8,
+            cdf: values[11] as u8,
+            own: values[12] as u16,
+            counter: values[13] as u8,
+            diverting: values[14] as u16,
+            original: values[15] as u16,
+            reason: values[16] as u8,
+            identifier: values[17] as u16,
+            start: values[18],
+            granted: values[19] as u8,
+            waits: waits_from(&values[PLAIN..]),
         }
     }
 
@@ -151,5 +183,25 @@ impl Record {
 
     pub fn is_granted(&self) -> bool {
         self.granted == 1
+    }
+
+    /// The forwarded party, which is the last nominated number that waits; 0
+    /// outside Invoked.
+    pub fn leg2(&self) -> u16 {
+        self.waits.last_number()
+    }
+}
+
+/// What waits, from the fields behind the plain ones.
+fn waits_from(values: &[u64]) -> Waits {
+    let dli1 = |at: usize| Dli1 {
+        reason: values[at] as u8,
+        option: values[at + 1] as u8,
+        number: values[at + 2] as u16,
+    };
+    Waits {
+        first: dli1(0),
+        count: values[3] as u8,
+        later: std::array::from_fn(|at| dli1(4 + 3 * at)),
     }
 }

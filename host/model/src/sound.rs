@@ -4,6 +4,7 @@
 use crate::codes::*;
 use crate::record::Record;
 use crate::station::Station;
+use crate::waits::{Dli1, Waits, MOST_LATER};
 
 /// "each code is in range". A free record has no basic state, a used one has.
 pub fn codes_in_range(r: &Record) -> bool {
@@ -12,19 +13,27 @@ pub fn codes_in_range(r: &Record) -> bool {
         && r.basic <= ACTIVE
         && (r.basic == 0) == r.is_free()
         && marks.iter().all(|&mark| mark <= 1)
-        && r.waiting_option <= WITH_NUMBER
-        && r.waiting_reason <= CFNR
+        && waiting_codes_in_range(&r.waits)
         && r.strictest <= WITH_NUMBER
         && r.cdf <= CDF_DONE
         && r.counter <= MOST_DIVERSIONS
         && r.reason <= CFNR
 }
 
+/// Also of the places that are not in use.
+fn waiting_codes_in_range(waits: &Waits) -> bool {
+    let in_range = |dli1: &Dli1| dli1.reason <= CFNR && dli1.option <= WITH_NUMBER;
+    in_range(&waits.first) && waits.later.iter().all(in_range)
+}
+
 /// "each party, own and (DLI1 seen) nominated number is not 0"
 pub fn numbers_not_zero(r: &Record) -> bool {
     match r.direction {
         OUTGOING => {
-            r.leg1 != 0 && (!r.is_invoked() || r.leg2 != 0) && (r.seen == 0 || r.nominated != 0)
+            let waiting = r.waits.in_order();
+            r.leg1 != 0
+                && (!r.is_invoked() || waiting.iter().all(|dli1| dli1.number != 0))
+                && (r.seen == 0 || r.nominated != 0)
         }
         INCOMING => r.own != 0,
         _ => true,
@@ -48,9 +57,7 @@ fn outgoing_part(r: &Record) -> Record {
         cdo: r.cdo,
         cdr: r.cdr,
         leg1: r.leg1,
-        leg2: r.leg2,
-        waiting_option: r.waiting_option,
-        waiting_reason: r.waiting_reason,
+        waits: r.waits,
         seen: r.seen,
         strictest: r.strictest,
         forbidden: r.forbidden,
@@ -79,9 +86,28 @@ fn incoming_part(r: &Record) -> Record {
     }
 }
 
-/// "in Invoked also the forwarded party (leg 2), option and reason"
+/// "in Invoked also the forwarded party (leg 2), option and reason", and what
+/// else waits
 pub fn second_leg_only_in_invoked(r: &Record) -> bool {
-    r.is_invoked() || (r.leg2 == 0 && r.waiting_option == 0 && r.waiting_reason == 0)
+    r.is_invoked() || r.waits == Waits::default()
+}
+
+/// "Up to 15 may wait, the first cfnr one included." (02, Six)
+pub fn fifteen_wait_at_most(r: &Record) -> bool {
+    usize::from(r.waits.count) <= MOST_LATER
+}
+
+/// "soundness [covers] the kept ones (the first cfnr, the others cfu or cfb)"
+/// (02, Six); of the first below.
+pub fn later_ones_cfu_or_cfb(r: &Record) -> bool {
+    let waiting = r.waits.used();
+    waiting.iter().all(|dli1| matches!(dli1.reason, CFU | CFB))
+}
+
+/// "each unused field is 0", of the places behind those that wait
+pub fn unused_places_zero(r: &Record) -> bool {
+    let unused = r.waits.unused();
+    unused.iter().all(|dli1| *dli1 == Dli1::default())
 }
 
 /// "It is all 0 before the first DLI1"
@@ -118,7 +144,7 @@ pub fn divert_exactly_after_dli1(r: &Record) -> bool {
 
 /// "CDR is Invoked only in Delivered and with reason cfnr"
 pub fn invoked_only_in_delivered(r: &Record) -> bool {
-    !r.is_invoked() || (r.basic == DELIVERED && r.waiting_reason == CFNR)
+    !r.is_invoked() || (r.basic == DELIVERED && r.waits.first.is_no_reply())
 }
 
 /// "Requested and granted exclude each other and Active"
@@ -151,11 +177,14 @@ pub fn wait_excludes_active(r: &Record) -> bool {
 pub type Sentence = (&'static str, fn(&Record) -> bool);
 
 /// The sentences about one record, each with a name for reports.
-pub const RECORD_SENTENCES: [Sentence; 14] = [
+pub const RECORD_SENTENCES: [Sentence; 17] = [
     ("codes_in_range", codes_in_range),
     ("numbers_not_zero", numbers_not_zero),
     ("other_directions_fields_zero", other_directions_fields_zero),
     ("second_leg_only_in_invoked", second_leg_only_in_invoked),
+    ("fifteen_wait_at_most", fifteen_wait_at_most),
+    ("later_ones_cfu_or_cfb", later_ones_cfu_or_cfb),
+    ("unused_places_zero", unused_places_zero),
     ("history_zero_before_dli1", history_zero_before_dli1),
     ("numbers_only_with_counter", numbers_only_with_counter),
     ("request_fields_only_in_use", request_fields_only_in_use),

@@ -3,6 +3,7 @@
 use crate::panel;
 use crate::profile::{self, Profile};
 use crate::text;
+use std::fmt::Write;
 
 /// The page's nine events.
 pub const NINE: &str = "\
@@ -17,12 +18,75 @@ divert call 1 cfu to 300 at 11001
 result call 1 id 65535 at 11002
 ";
 
+/// The ways out of Invoked, and DLI3s that may come before and behind.
+const OUT: [&str; 6] = [
+    "message call 0 leg 2 alerting dli3-allowed",
+    "message call 0 leg 2 connect dli3-allowed",
+    "message call 0 leg 1 release-complete",
+    "message call 0 leg 2 release-complete",
+    "message call 0 leg 1 connect dli3-allowed",
+    "end call 0",
+];
+const DLI3: &str = "message call 0 leg 1 facility dli3-allowed";
+
+/// How many wait, and the place and word of a stricter option, if there is
+/// one. Sixteen stands for a sixteenth that is refused.
+const FILLED: [(usize, usize, &str); 11] = [
+    (1, 0, "with-number"),
+    (1, 0, ""),
+    (2, 0, "with-number"),
+    (2, 0, "without-number"),
+    (2, 1, ""),
+    (15, 0, "with-number"),
+    (16, 15, ""),
+    (16, 0, "without-number"),
+    (16, 7, "without-number"),
+    (16, 14, ""),
+    (16, 14, "without-number"),
+];
+
+/// One call after the other that is filled and leaves Invoked each way.
+pub fn fifteen() -> String {
+    let mut lines = String::new();
+    let mut line = |words: &str| {
+        let _ = writeln!(lines, "{words} at 1");
+    };
+    for (row, (count, strict, word)) in FILLED.into_iter().enumerate() {
+        for (way, out) in OUT.into_iter().enumerate() {
+            line("open outgoing 101");
+            // Every other call has a history already.
+            if (row + way) % 2 == 1 {
+                line("dli1 call 0 cfu with-number to 150");
+            }
+            line("message call 0 leg 1 alerting");
+            for at in 0..count {
+                let on = ["leg 1 cfnr", "leg 2 cfu", "leg 2 cfb"][at.min(1 + at % 2)];
+                let option = if at == strict { word } else { "with-number" };
+                let (counter, number) = (at % 15 + 1, 201 + at);
+                line(&format!(
+                    "reroute call 0 {on} {option} counter {counter} id {at} to {number}"
+                ));
+            }
+            // On leg 1 and with cfnr nothing more is taken.
+            line("reroute call 0 leg 1 cfu with-number counter 1 id 77 to 300");
+            line("reroute call 0 leg 2 cfnr with-number counter 1 id 78 to 300");
+            for words in [DLI3, out, DLI3, "end call 0"] {
+                line(words);
+            }
+        }
+    }
+    lines
+}
+
 /// Events of each profile's file.
 const COUNT: usize = 1000;
 
 /// Each file's name and bytes; the hostile one ends in a cut record.
 pub fn all() -> Vec<(&'static str, Vec<u8>)> {
-    let mut files = vec![("nine", text::encode(NINE).unwrap_or_default())];
+    let mut files = vec![
+        ("nine", text::encode(NINE).unwrap_or_default()),
+        ("fifteen", text::encode(&fifteen()).unwrap_or_default()),
+    ];
     for (at, profile) in profile::ALL.into_iter().enumerate() {
         let events = profile::events(profile, 4503 + at as u64, COUNT);
         let mut bytes = panel::bytes(&events);

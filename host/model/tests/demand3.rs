@@ -20,10 +20,14 @@ fn tightened(random: &mut Random, event: &Event) -> Event {
     strict
 }
 
-/// Every field but the four that tightening may move.
-fn but_four(record: &Record) -> Record {
+/// Every field but those that tightening may move: the options that wait, and
+/// three of the history.
+fn unmoved(record: &Record) -> Record {
+    let mut waits = record.waits;
+    waits.first.option = 0;
+    waits.later.iter_mut().for_each(|later| later.option = 0);
     Record {
-        waiting_option: 0,
+        waits,
         strictest: 0,
         forbidden: 0,
         shown: 0,
@@ -33,8 +37,9 @@ fn but_four(record: &Record) -> Record {
 
 fn related(strict: &Record, wide: &Record) -> bool {
     let hidden = strict.strictest < WITH_NUMBER || strict.forbidden == 1;
-    but_four(strict) == but_four(wide)
-        && strict.waiting_option <= wide.waiting_option
+    let waiting = (strict.waits.in_order(), wide.waits.in_order());
+    unmoved(strict) == unmoved(wide)
+        && (waiting.0.iter().zip(&waiting.1)).all(|(s, w)| s.option <= w.option)
         && strict.strictest <= wide.strictest
         && strict.forbidden >= wide.forbidden
         && strict.shown <= wide.shown
@@ -108,6 +113,17 @@ fn a_stricter_list_tells_no_more() {
 fn a_stricter_list_tells_no_more_from_lent_tables() {
     for seed in 0..300 {
         let start = lent::sound_start(&mut Random::new(seed));
-        compare(Profile::Deep, seed, start, 60);
+        compare(Profile::Deep, seed, start.clone(), 60);
+        compare(Profile::Chain, seed, start, 60);
     }
+}
+
+#[test]
+fn a_stricter_list_of_waiting_invokes_tells_no_more() {
+    let mut hidden = [0, 0];
+    for seed in 0..60 {
+        let found = compare(Profile::Chain, seed, panel::start(), 600);
+        hidden = [hidden[0] + found[0], hidden[1] + found[1]];
+    }
+    assert!(hidden[0] > 200 && hidden[1] > 200, "{hidden:?}");
 }

@@ -190,7 +190,7 @@ fn profiles_meet_identifier_0_in_replies_and_invokes() {
 fn lent_requests_pass_over_identifiers_across_the_wrap() {
     let mut met = [0, 0];
     let mut random = Random::new(17);
-    for _ in 0..60_000 {
+    for _ in 0..120_000 {
         let mut case = lent::case(&mut random);
         let next = case.station.next_identifier;
         let answer = step(&mut case.table, &mut case.station, &case.event);

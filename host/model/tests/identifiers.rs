@@ -94,7 +94,9 @@ fn a_received_invoke_may_bear_0_and_it_is_echoed() {
     assert_eq!(last(&join(&rings, no_reply)), "0 0 - - 0 1 R1S2");
     assert_eq!(last(&join(open, no_reply)), "0 0 - - 0 - E1");
     let on_leg_2 = "reroute call 0 leg 2 cfb counter 1 id 0 to 3 at 9";
-    assert_eq!(last(&join(INVOKED, on_leg_2)), "0 0 - - 0 - E2");
+    assert_eq!(last(&join(INVOKED, on_leg_2)), "0 0 - - 0 1 R2X2S2");
+    let refused = "reroute call 0 leg 2 cfnr counter 1 id 0 to 3 at 9";
+    assert_eq!(last(&join(INVOKED, refused)), "0 0 - - 0 - E2");
     let echoed = answer(&join(open, no_reply)).messages[0];
     assert_eq!((echoed.letter, echoed.identifier), ('E', 0));
 }

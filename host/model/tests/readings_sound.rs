@@ -4,6 +4,7 @@
 mod common;
 
 use common::*;
+use model::record::{COUNT, PLAIN};
 use model::{sound, Record};
 
 /// The record as these lines leave it, changed; is it sound?
@@ -27,7 +28,7 @@ fn counter_0_makes_the_diversion_numbers_unused() {
 #[test]
 fn a_free_record_is_all_0() {
     let free = Record::default();
-    for field in 0..model::record::COUNT {
+    for field in 0..COUNT {
         let mut values = free.values();
         values[field] = 1;
         assert!(!sound::record_sound(&Record::from_values(&values)));
@@ -36,12 +37,12 @@ fn a_free_record_is_all_0() {
 
 #[test]
 fn each_direction_has_0_in_the_others_fields() {
-    for field in 13..23 {
+    for field in 10..PLAIN {
         let mut values = record(DIVERT, 0).values();
         values[field] = 1;
         assert!(!sound::record_sound(&Record::from_values(&values)));
     }
-    for field in 2..13 {
+    for field in (2..10).chain(PLAIN..COUNT) {
         let mut values = record(RINGS, 0).values();
         values[field] = 1;
         assert!(!sound::record_sound(&Record::from_values(&values)));
@@ -50,15 +51,15 @@ fn each_direction_has_0_in_the_others_fields() {
 
 #[test]
 fn leg_2_option_and_reason_are_0_in_cdr_idle() {
-    assert!(!sound_with(DIVERT, |r| r.leg2 = 1));
-    assert!(!sound_with(DIVERT, |r| r.waiting_option = 1));
-    assert!(!sound_with(DIVERT, |r| r.waiting_reason = 3));
+    assert!(!sound_with(DIVERT, |r| r.waits.first.number = 1));
+    assert!(!sound_with(DIVERT, |r| r.waits.first.option = 1));
+    assert!(!sound_with(DIVERT, |r| r.waits.first.reason = 3));
     assert!(!sound_with(INVOKED, |r| r.cdr = 0));
-    assert!(!sound_with(INVOKED, |r| r.leg2 = 0));
-    assert!(!sound_with(INVOKED, |r| r.waiting_reason = 1));
+    assert!(!sound_with(INVOKED, |r| r.waits.first.number = 0));
+    assert!(!sound_with(INVOKED, |r| r.waits.first.reason = 1));
     assert!(!sound_with(INVOKED, |r| r.basic = 1));
-    assert!(sound_with(INVOKED, |r| r.waiting_option = 0));
-    assert!(!sound_with(INVOKED, |r| r.waiting_option = 3));
+    assert!(sound_with(INVOKED, |r| r.waits.first.option = 0));
+    assert!(!sound_with(INVOKED, |r| r.waits.first.option = 3));
 }
 
 #[test]

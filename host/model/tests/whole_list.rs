@@ -4,45 +4,88 @@
 
 use model::codes::*;
 use model::profile::{self, Profile, Walk};
-use model::{Answer, Event, Record};
+use model::{Answer, Dli1, Event, Record};
 
 /// What reaches the CDO.
-#[derive(Clone, Copy)]
+#[derive(Clone, Copy, Debug, PartialEq)]
 enum Told {
     Dli1 { reason: u8, option: u8, number: u16 },
     Dli3 { allowed: bool, number: u16 },
 }
 
-/// What a done event of an outgoing call brings to the CDO, in order.
-fn brought(before: &Record, event: &Event, answer: &Answer) -> Vec<Told> {
-    let dli1 = |reason, option, number| Told::Dli1 {
-        reason,
-        option,
-        number,
-    };
-    let sent = dli1(event.reason, event.option, event.second);
-    let waiting = dli1(before.waiting_reason, before.waiting_option, before.leg2);
-    let dli3 = Told::Dli3 {
-        allowed: event.flag == DLI3_ALLOWED,
-        number: event.second,
-    };
-    let rerouted = answer.messages.len() == 3;
-    let invoked = before.is_invoked();
-    match (event.kind, event.message, event.leg) {
-        (REROUTE, _, _) if rerouted => vec![sent],
-        (DLI1, _, _) => vec![sent],
-        (MESSAGE, RELEASE_COMPLETE, 1) if invoked => vec![waiting],
-        (MESSAGE, ALERTING | CONNECT, 2) if event.flag == NO_DLI3 => vec![waiting],
-        (MESSAGE, ALERTING | CONNECT, 2) => vec![waiting, dli3],
-        (MESSAGE, _, 1) if event.flag != NO_DLI3 && before.cdo == DIVERT => vec![dli3],
-        _ => vec![],
+/// One call so far: what reached the CDO, the places in it that showed a
+/// number, and what waits, kept from the events and not from the record.
+#[derive(Clone, Default)]
+struct Life {
+    list: Vec<Told>,
+    shown: Vec<usize>,
+    waiting: Vec<Told>,
+}
+
+impl Life {
+    /// What a done event of an outgoing call brings to the CDO, in order.
+    fn brought(&mut self, before: &Record, event: &Event, answer: &Answer) -> Vec<Told> {
+        let sent = Told::Dli1 {
+            reason: event.reason,
+            option: event.option,
+            number: event.second,
+        };
+        let dli3 = Told::Dli3 {
+            allowed: event.flag == DLI3_ALLOWED,
+            number: event.second,
+        };
+        let sets_up = |leg| {
+            answer
+                .messages
+                .iter()
+                .any(|m| (m.letter, m.leg) == ('S', leg))
+        };
+        let mut brought = match (event.kind, event.message, event.leg) {
+            (REROUTE, _, _) if sets_up(1) => vec![sent],
+            (REROUTE, _, _) if sets_up(2) => {
+                self.waiting.push(sent);
+                vec![]
+            }
+            (DLI1, _, _) => vec![sent],
+            (MESSAGE, ALERTING | CONNECT, 2) | (MESSAGE, RELEASE_COMPLETE, 1) => {
+                std::mem::take(&mut self.waiting)
+            }
+            (MESSAGE, CONNECT, 1) | (MESSAGE, RELEASE_COMPLETE, 2) | (OWN_END, _, _) => {
+                self.waiting.clear();
+                vec![]
+            }
+            _ => vec![],
+        };
+        let diverts = before.cdo == DIVERT || !brought.is_empty();
+        if event.kind == MESSAGE && event.flag != NO_DLI3 && diverts {
+            brought.push(dli3);
+        }
+        brought
+    }
+
+    /// Takes the event and hands back its notice and number.
+    fn take(&mut self, before: &Record, event: &Event, answer: &Answer) -> Seen {
+        let mut seen = (None, None);
+        for told in self.brought(before, event, answer) {
+            self.list.push(told);
+            let (notice, number) = judged(&self.list, &self.shown);
+            if number.is_some() {
+                self.shown.push(self.list.len() - 1);
+            }
+            assert!(notice.is_none() || seen.0.is_none(), "two notices");
+            seen = (seen.0.or(notice), seen.1.or(number));
+        }
+        seen
     }
 }
+
+/// Notice and number.
+type Seen = (Option<u8>, Option<u16>);
 
 /// Notice and number of the last entry, from the call's whole list: "every
 /// option so far is 2, every DLI3 so far is allowed", and none was shown since
 /// the last cfnr DLI1. `shown` holds the places of the DLI3s that showed one.
-fn judged(list: &[Told], shown: &[usize]) -> (Option<u8>, Option<u16>) {
+fn judged(list: &[Told], shown: &[usize]) -> Seen {
     let dli1s: Vec<(usize, u8, u8, u16)> = list
         .iter()
         .enumerate()
@@ -75,33 +118,50 @@ fn judged(list: &[Told], shown: &[usize]) -> (Option<u8>, Option<u16>) {
     }
 }
 
-/// A call's list so far, and the places in it that showed a number.
-type Life = (Vec<Told>, Vec<usize>);
+/// What a record keeps waiting, as the list has it.
+fn kept(record: &Record) -> Vec<Told> {
+    if !record.is_invoked() {
+        return vec![];
+    }
+    let told = |dli1: &Dli1| Told::Dli1 {
+        reason: dli1.reason,
+        option: dli1.option,
+        number: dli1.number,
+    };
+    record.waits.in_order().iter().map(told).collect()
+}
 
-/// Judges each call of a walk by its whole list. Hands back how many numbers
-/// were a call's first, second, third and later.
-fn follow(profile: Profile, seed: u64, events: usize) -> [usize; 4] {
+/// What a walk has met: numbers that were a call's first, second, third and
+/// later, and calls that were told 1 to 15 DLI1s at once.
+#[derive(Debug, Default)]
+struct Met {
+    numbers: [usize; 4],
+    at_once: [usize; 16],
+}
+
+/// Judges each call of a walk by its whole list.
+fn follow(profile: Profile, seed: u64, events: usize) -> Met {
     let mut walk = Walk::new(profile, seed);
     let mut lives: Vec<Life> = vec![Life::default(); walk.table.len()];
-    let mut met = [0; 4];
+    let mut met = Met::default();
     for _ in 0..events {
         let before = walk.table.clone();
         let (event, answer) = walk.advance();
         let Some(call) = answer.call.map(usize::from) else {
             continue;
         };
-        let (list, shown) = &mut lives[call];
-        let mut expected = (None, None);
-        for told in brought(&before[call], &event, &answer) {
-            list.push(told);
-            let (notice, number) = judged(list, shown);
-            if number.is_some() {
-                met[shown.len().min(3)] += 1;
-                shown.push(list.len() - 1);
-            }
-            expected = (expected.0.or(notice), expected.1.or(number));
-        }
+        let life = &mut lives[call];
+        let (shown, waiting) = (life.shown.len(), life.waiting.len());
+        let list = life.list.len();
+        let expected = life.take(&before[call], &event, &answer);
         assert_eq!((answer.notice, answer.number), expected, "{event:?}");
+        assert_eq!(kept(&walk.table[call]), life.waiting, "{event:?}");
+        if life.shown.len() > shown {
+            met.numbers[shown.min(3)] += 1;
+        }
+        if life.list.len() >= list + waiting && life.waiting.is_empty() {
+            met.at_once[waiting] += 1;
+        }
         if walk.table[call].is_free() {
             lives[call] = Life::default();
         }
@@ -121,5 +181,13 @@ fn notices_and_numbers_follow_from_the_calls_whole_list() {
 #[test]
 fn the_second_profile_shows_numbers_again() {
     let met = follow(Profile::Second, 1, 1000);
-    assert!(met.iter().all(|&numbers| numbers > 10), "{met:?}");
+    assert!(met.numbers.iter().all(|&numbers| numbers > 10), "{met:?}");
+}
+
+#[test]
+fn the_chain_profile_tells_up_to_fifteen_at_once() {
+    let met = follow(Profile::Chain, 1, 20_000);
+    assert!(met.at_once.iter().all(|&calls| calls > 4), "{met:?}");
+    assert!(met.at_once[15] > 100, "{met:?}");
+    assert!(met.numbers.iter().all(|&numbers| numbers > 4), "{met:?}");
 }

@@ -61,8 +61,8 @@ pub enum Message {
     /// RELEASE COMPLETE, which ends the leg.
     ReleaseComplete { leg: Leg },
     /// SETUP with divertingLegInformation2 to the destination, on a connection of
-    /// its own: it is the leg that is named, from now on. Where that is the first, the
-    /// messages before it go on the connection that was the first.
+    /// its own: it is the leg that is named, from now on. Messages before it that bear
+    /// the same leg go on the connection that was that leg until then.
     Setup {
         leg: Leg,
         reason: Reason,

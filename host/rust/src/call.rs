@@ -1,7 +1,8 @@
 //! Call records.
 
 use crate::raw::{self, lies};
-use crate::{Basic, Direction, Number, Reason};
+use crate::waits::Waits;
+use crate::{Basic, Direction, Dli1, Number, Reason};
 use core::fmt;
 
 /// One record of the table that a host owns and lends. The engine alone writes
@@ -18,8 +19,8 @@ pub struct Call {
     cdf: u8,
     granted: u8,
     counter: u8,
+    start: u64,
     party: u16,
-    waiting: Dli1,
     history: History,
     own: u16,
     diverting: u16,
@@ -27,16 +28,8 @@ pub struct Call {
     identifier: u16,
     reason: u8,
     /// Not told by the library: whatever stands here.
-    padding: [u8; 3],
-    start: u64,
-}
-
-#[derive(Clone, Copy)]
-#[repr(C)]
-struct Dli1 {
-    reason: u8,
-    option: u8,
-    number: u16,
+    padding: u8,
+    waiting: Waits,
 }
 
 #[derive(Clone, Copy)]
@@ -49,10 +42,9 @@ struct History {
     nominated: u16,
 }
 
-lies!(Call, 40, direction 0 basic 1 cdo 2 cdr 3 cds 4 cdf 5 granted 6 counter 7 party 8
-    waiting 10 history 14 own 20 diverting 22 original 24 identifier 26 reason 28
-    padding 29 start 32);
-lies!(Dli1, 4, reason 0 option 1 number 2);
+lies!(Call, 96, direction 0 basic 1 cdo 2 cdr 3 cds 4 cdf 5 granted 6 counter 7 start 8
+    party 16 history 18 own 24 diverting 26 original 28 identifier 30 reason 32
+    padding 33 waiting 34);
 lies!(History, 6, seen 0 strictest 1 forbidden 2 shown 3 nominated 4);
 
 /// An open callRerouting request of an incoming call.
@@ -77,12 +69,8 @@ impl Call {
         cdf: 0,
         granted: 0,
         counter: 0,
+        start: 0,
         party: 0,
-        waiting: Dli1 {
-            reason: 0,
-            option: 0,
-            number: 0,
-        },
         history: History {
             seen: 0,
             strictest: 0,
@@ -95,8 +83,8 @@ impl Call {
         original: 0,
         identifier: 0,
         reason: 0,
-        padding: [0; 3],
-        start: 0,
+        padding: 0,
+        waiting: Waits::NONE,
     };
 
     /// Whether a call may be opened here.
@@ -123,7 +111,16 @@ impl Call {
     /// The party on leg 2 of an outgoing call, while a no-reply diversion tries it;
     /// where there is none, there is no leg 2.
     pub const fn forwarded(&self) -> Option<Number> {
-        Number::new(self.waiting.number)
+        Number::new(self.waiting.last_number())
+    }
+
+    /// What waits with leg 2, in the order in which it came: the diversion on no reply
+    /// that opened it, and each one that was accepted on leg 2 since then, up to
+    /// [`MOST_WAITING`](crate::MOST_WAITING) in all. The last one's number is
+    /// [`Call::forwarded`]. The caller is told of none before leg 2 becomes leg 1; where
+    /// leg 2 or the call ends instead, all are dropped.
+    pub fn waiting(&self) -> impl Iterator<Item = Dli1> {
+        self.waiting.in_order()
     }
 
     /// The number that an outgoing call was last said to be diverted to.
@@ -180,22 +177,43 @@ impl Call {
         }
     }
 
-    /// The 40 bytes as they lie in this machine's memory, to keep them elsewhere
+    /// The 96 bytes as they lie in this machine's memory, to keep them elsewhere
     /// with [`FORMAT`](crate::FORMAT) beside them.
-    /// Bytes 29 to 31 are padding, and may be anything: leave them out of a checksum.
-    pub fn to_bytes(&self) -> [u8; 40] {
+    /// Bytes 33 and 39 are padding, and may be anything: leave them out of a checksum.
+    pub fn to_bytes(&self) -> [u8; 96] {
         raw::bytes_of(*self)
     }
 
     /// The record of bytes that were kept under this [`FORMAT`](crate::FORMAT). Any bytes will do: a table that is
     /// not sound is refused when it is lent.
-    pub fn from_bytes(bytes: [u8; 40]) -> Call {
+    pub fn from_bytes(bytes: [u8; 96]) -> Call {
         raw::call_of(bytes)
     }
 
-    fn unpadded(&self) -> [u8; 40] {
-        let padding = [0; 3];
-        Call { padding, ..*self }.to_bytes()
+    /// The record of the 40 bytes that were kept under format 1. One that waits there
+    /// is the first here; all else stays.
+    pub fn from_format_1(bytes: [u8; 40]) -> Call {
+        /// Codes; start; party; history; own to reason; what waits: where they lie
+        /// now, where they lay and how many bytes they are.
+        const PARTS: [(usize, usize, usize); 6] = [
+            (0, 0, 8),
+            (8, 32, 8),
+            (16, 8, 2),
+            (18, 14, 6),
+            (24, 20, 9),
+            (34, 10, 4),
+        ];
+        let mut now = [0; 96];
+        for (to, from, count) in PARTS {
+            now[to..to + count].copy_from_slice(&bytes[from..from + count]);
+        }
+        Call::from_bytes(now)
+    }
+
+    fn unpadded(&self) -> [u8; 96] {
+        let mut call = *self;
+        (call.padding, call.waiting.padding) = (0, 0);
+        call.to_bytes()
     }
 }
 
@@ -222,7 +240,7 @@ impl fmt::Debug for Call {
                 .debug_struct("Outgoing")
                 .field("basic", &self.basic())
                 .field("party", &self.party())
-                .field("forwarded", &self.forwarded())
+                .field("waiting", &Listed(self))
                 .field("nominated", &self.nominated())
                 .field("number_shown", &self.number_shown())
                 .finish_non_exhaustive(),
@@ -238,5 +256,14 @@ impl fmt::Debug for Call {
                 .finish_non_exhaustive(),
             None => f.debug_tuple("Damaged").field(&self.to_bytes()).finish(),
         }
+    }
+}
+
+/// What waits on a call.
+struct Listed<'a>(&'a Call);
+
+impl fmt::Debug for Listed<'_> {
+    fn fmt(&self, f: &mut fmt::Formatter<'_>) -> fmt::Result {
+        f.debug_list().entries(self.0.waiting()).finish()
     }
 }

@@ -60,8 +60,10 @@ pub enum Kind {
     /// other than unknown; the counter is 1 to 15, and the identifier may be 0.
     ///
     /// Cfu or cfb: R1 X1 S1, and the connection of the SETUP is leg 1. Cfnr while the
-    /// call rings: R1 S2, and it is leg 2. In Invoked, of an answered call, and for
-    /// cfnr before the call rings: E on the leg on which it came, and the legs stay.
+    /// call rings: R1 S2, and it is leg 2. In Invoked, cfu or cfb on leg 2 while fewer
+    /// than [`MOST_WAITING`](crate::MOST_WAITING) wait: R2 X2 S2, and it is leg 2 in
+    /// place of the other. All else in Invoked, of an answered call, and cfnr before the
+    /// call rings: E on the leg on which it came, and the legs stay.
     Reroute {
         call: u8,
         leg: Leg,
@@ -98,7 +100,8 @@ pub enum Kind {
 pub enum Received {
     /// FACILITY, on leg 1. Sends nothing; the legs stay.
     Facility(Dli3),
-    /// ALERTING. In Invoked, on leg 2: X1, and leg 2 becomes leg 1.
+    /// ALERTING. In Invoked, on leg 2: X1, and leg 2 becomes leg 1. Then, and
+    /// wherever else leg 2 becomes leg 1, the caller is told of what waits.
     Alerting(Option<Dli3>),
     /// CONNECT. In Invoked, on leg 1: X2, and leg 2 is gone; on leg 2: X1, and leg 2
     /// becomes leg 1.

@@ -48,6 +48,9 @@ mod station;
 mod tests;
 #[cfg(test)]
 mod unknown;
+#[cfg(test)]
+mod waiting;
+mod waits;
 mod words;
 
 pub use answer::{Answer, Message, PlainMessage};
@@ -57,6 +60,7 @@ pub use event::{Dli3, Event, Kind, Received};
 pub use plan::{Ending, Panel, Plan, Rehearsal};
 pub use refusal::Refusal;
 pub use station::Station;
+pub use waits::Dli1;
 
 /// A party number, 1 to 65,535; an absent one is `None`.
 pub type Number = core::num::NonZeroU16;
@@ -65,12 +69,16 @@ pub type Number = core::num::NonZeroU16;
 /// [`Call::to_bytes`]: keep this number beside them. Where another stands there, do not
 /// lend them, but start again with free records and a fresh station. It moves whenever
 /// their layout changes, or what their bytes mean, or which of them are sound. What was
-/// kept before there was a number has the layout of 1, but may not be sound:
-/// [`Station::kept`] says when.
-pub const FORMAT: u32 = 1;
+/// kept under 1 may also be converted: the station as it is, each record by
+/// [`Call::from_format_1`]. What was kept before there was a number has the layout of
+/// 1, but may not be sound: [`Station::kept`] says when.
+pub const FORMAT: u32 = 2;
 
 /// The most records that a table may have.
 pub const MOST_RECORDS: usize = 64;
+
+/// The most divertingLegInformation1s that wait on one call ([`Call::waiting`]).
+pub const MOST_WAITING: usize = 15;
 
 /// The most panels that a plan may have.
 pub const MOST_PANELS: usize = 256;

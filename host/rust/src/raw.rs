@@ -89,7 +89,7 @@ mod library {
     extern "C" {
         // The layout of the structs here, by its number: an archive of another one
         // does not link. It hands back the archive's format number.
-        #[link_name = "whipsail_layout_1"]
+        #[link_name = "whipsail_layout_2"]
         pub fn layout() -> u32;
         pub fn whipsail_fresh(limit: u8) -> Made;
         pub fn whipsail_fresh_short() -> Station;
@@ -156,14 +156,14 @@ pub fn rehearse(plan: &[u16], start: u16) -> Rehearsed {
 }
 
 /// The record that lies in these bytes.
-pub fn call_of(bytes: [u8; 40]) -> Call {
+pub fn call_of(bytes: [u8; 96]) -> Call {
     // SAFETY: the sizes are equal, and a record holds numbers alone, for which
     // any bytes will do.
     unsafe { core::mem::transmute(bytes) }
 }
 
 /// The bytes in which a record lies.
-pub fn bytes_of(call: Call) -> [u8; 40] {
+pub fn bytes_of(call: Call) -> [u8; 96] {
     // SAFETY: the sizes are equal, and padding is a field of the record, so
     // that every byte is a number.
     unsafe { core::mem::transmute(call) }

@@ -203,8 +203,8 @@ fn a_kept_identifier_0_is_refused() {
         assert!(told.is_ok(), "{told:?}");
     }
     let mut bytes = table[0].to_bytes();
-    assert_eq!(bytes[26..28], 65535_u16.to_ne_bytes());
-    bytes[26..28].copy_from_slice(&[0, 0]);
+    assert_eq!(bytes[30..32], 65535_u16.to_ne_bytes());
+    bytes[30..32].copy_from_slice(&[0, 0]);
     table[0] = Call::from_bytes(bytes);
     let told = station.step(&mut table, &Event::at(1, Kind::Clock));
     assert_eq!(told, Err(Refusal::NotSound));
@@ -213,11 +213,14 @@ fn a_kept_identifier_0_is_refused() {
 #[test]
 fn padding_is_no_part_of_a_record() {
     let mut bytes = Call::FREE.to_bytes();
-    bytes[30] = 7;
+    (bytes[33], bytes[39]) = (7, 8);
     let padded = Call::from_bytes(bytes);
     assert_eq!((padded, padded.to_bytes()), (Call::FREE, bytes));
-    bytes[39] = 7;
-    assert_ne!(Call::from_bytes(bytes), Call::FREE);
+    for at in (0..96).filter(|at| ![33, 39].contains(at)) {
+        let mut other = bytes;
+        other[at] = 7;
+        assert_ne!(Call::from_bytes(other), Call::FREE, "byte {at}");
+    }
 }
 
 /// The numbers of a panel with these destinations and marks.

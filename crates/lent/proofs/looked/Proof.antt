@@ -38,10 +38,9 @@ use denote.Triple.Walked.{says, Stays, stay-none-slice, stay-none, walkOf, goes-
 use denote.Exit.{yes}
 use denote.Signature.{plain}
 use Rattle.call.specs.declared.Call.{Call}
-use Rattle.call.proofs.Call.Laws as S′
 use Rattle.station.specs.Table.{at as record-of}
 use Rattle.slice.specs.Table.{fitOf}
-use Rattle.slice.proofs.Row.{R, cell, typed-at}
+use Rattle.slice.proofs.Row.{R, cell, tells, typed-at}
 use Rattle.survey.specs.declared.Asked.{Asked}
 use Rattle.survey.specs.declared.Noted.{Noted}
 use Rattle.survey.specs.Survey.{surveyOf}
@@ -172,7 +171,7 @@ module _ {M : Type 1} (𝓤 : URA M) (H : Heap 𝓤) (A : Atoms 𝓤) (W : Given
         use1 W (later (some (λ (t : Call). ((‵ (flft κ q) ⊛ ‵ ftrue) ⊛ ‵ (R .own t (w₅ ∷ []))) ⊛ raw (ensured 𝓤 H A read.ended (read.clauses 𝓤 H A mem run) (κ, tt) (x, (n, (i, tt))) tt t)))) (id⊢ 𝓤 _) $ await ! tt $ pick ! (λ c.
         split ! $ move ! (1 ∷ []) $ use1 W (raw (fact 𝓤 (c ≡ record-of (take n ys) i))) (read-of 𝓤 H A mem run κ x n i c) $ heard ! (c ≡ record-of (take n ys) i) (λ e₅.
         split ! $ move ! (1 ∷ []) $ peeks ! R (Is R) (shows 𝓤 H A R) c (w₅ ∷ []) (λ gc.
-        land ! (from ! (stop !)) (init ! 7 refl (typed-at 𝓤 H A W c w₅ gc)) $ rewrite ! 7 (λ (u : Val). ‵ (fat fullShare cell l₇ 0 u)) (ap only (S′.lowers .val-is c (w₅ ∷ []) gc)) refl $ drop ! $
+        land ! (from ! (stop !)) (init ! 7 refl (typed-at 𝓤 H A W c w₅ gc)) $ rewrite ! 7 (λ (u : Val). ‵ (fat fullShare cell l₇ 0 u)) (ap only (tells c (w₅ ∷ []) gc)) refl $ drop ! $
         split ! $ move ! (2 ∷ 0 ∷ []) $ move ! (2 ∷ []) $ drop ! $
         -- `picked`, with a copy of the slice
         use1 W (‵ Own ⊛ ‵ Own) (shr-slice-copy 𝓤 H A W (named 0) κ R .twice x (s ∷ [])) $ split ! $

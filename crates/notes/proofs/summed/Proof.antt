@@ -4,6 +4,7 @@ use native.Mathlib.Omega.{arith}
 use borrow.Author.Needs.{needs}
 use lib.ListN.{length, getD, length-set, getD-replicate}
 use Rattle.call.specs.Record.{freeCall}
+use Rattle.call.proofs.Read.{unread}
 use Rattle.notes.specs.Mask.{over}
 use Rattle.notes.specs.Notes.{Kept, frees, soonestOf}
 use Rattle.notes.proofs.Mask.{over-next, over-at, over-length}
@@ -31,7 +32,7 @@ flip-requires c κs =
     let long : length l ≡ 64 = search needs in
     let f : getD (over (v .i) l frees) (v .i) freeCall ≡ freeCall =
     over-at l frees (v .i) freeCall (omega arith) (omega arith) ∙ getD-replicate 64 (v .i) freeCall freeCall (omega arith) in
-    rw f at (kept-may (over (v .i) l frees) (v .free) (v .soon) (v .dues) (v .held) (v .i) (getD l (v .i) freeCall) freeCall (v .inv .3) (omega arith) (over-length l frees (v .i) long))
+    rw f at (kept-may (over (v .i) l frees) (v .free) (v .soon) (v .dues) (v .held) (v .i) (getD l (v .i) unread) freeCall (v .inv .3) (omega arith) (over-length l frees (v .i) long))
 
 loop-again : tie.Need-loop-again Inv-loop μ-loop
 loop-again c =
@@ -46,11 +47,11 @@ loop-again c =
       omega arith,
       simp length-set (v .inv .1),
       simp length-set (v .inv .2),
-      rw (← over-next l frees i freeCall (omega arith) (omega arith), c .before .before .quiet-until .ensures, c .held-by .ensures)
-          (kept-next (over i l frees) (v .free) (v .soon) (v .dues) (v .held) i (getD l i freeCall) freeCall (v .inv .3)
+      rw (← over-next l frees i unread (omega arith) (omega arith), c .before .before .quiet-until .ensures, c .held-by .ensures)
+          (kept-next (over i l frees) (v .free) (v .soon) (v .dues) (v .held) i (getD l i unread) freeCall (v .inv .3)
           (c .before .before .before .flip .result) (c .before .sooner .result) (omega (arith, full)) (rw f (c .before .before .before .flip .ensures))
           (omega (arith, c .before .sooner .ensures)) (omega (arith, c .before .sooner .ensures, c .before .before .quiet-until .ensures))),
-      rw (c .before .sooner .ensures, c .before .before .quiet-until .ensures, v .inv .4, v .inv .3 .column) (sym (soonest-stored (over i l frees) i (getD l i freeCall) (omega (arith, full)) f)),
+      rw (c .before .sooner .ensures, c .before .before .quiet-until .ensures, v .inv .4, v .inv .3 .column) (sym (soonest-stored (over i l frees) i (getD l i unread) (omega (arith, full)) f)),
     )
 
 returns : tie.Need-returns Inv-loop μ-loop

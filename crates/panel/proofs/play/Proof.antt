@@ -7,12 +7,13 @@ use borrow.Author.Needs.{needs}
 use lib.ListN.{length, getD, set}
 use Rattle.ground.proofs.Walks.{mapped-long}
 use Rattle.call.specs.Record.{freeCall}
+use Rattle.call.proofs.Read.{unread, read-any}
 use Rattle.notes.specs.Notes.{never}
 use Rattle.turn.specs.declared.Seen.{Seen}
 use Rattle.board.specs.Board.{stepSoundBoard, within}
 use Rattle.board.proofs.Boards.{tested-short, within-small, within-near}
 use Rattle.board.proofs.Beside.{notes, boardNow, Beside, beside-start, beside-soon, beside-next, may-flip}
-use Rattle.board.proofs.Steps.{turn-refused, turn-none, turn-there, turn-done}
+use Rattle.board.proofs.Steps.{turn-refused, turn-none, turn-there, turn-doable, turn-done}
 use Rattle.panel.proofs.Playing.{Playing, playing-start, played-text, played-board}
 use Rattle.panel.proofs.InPlace.{playing-refused, playing-none, playing-done}
 use Rattle.panel.proofs.play.Statement.{statement}
@@ -21,7 +22,7 @@ use Rattle.panel.proofs.play.Tie as tie
 abbrev Inv-loop : tie.InvT-loop
 Inv-loop position bytes out₀ n calls₀ s₀ len free₀ soon₀ dues₀ held₀ at₀ k₀ out calls s free soon dues held at k =
     Playing (record { station = s₀; len = len; calls = calls₀ }) position bytes out₀ n (record { station = s; len = len; calls = calls }) out at k
-    × Beside len calls (notes free soon dues held)
+    × Beside len calls (notes free soon dues held) × (s .limit < 256)
 
 abbrev μ-loop : tie.MeasureT-loop
 μ-loop position bytes out₀ n calls₀ s₀ len free₀ soon₀ dues₀ held₀ at₀ k₀ out calls s free soon dues held at k = n - k
@@ -32,7 +33,7 @@ loop-holds c =
     let b = a .args .b in
     let long : length (b .calls) ≡ 64 = search (mapped-long, a .good) in
     let beside = beside-start (b .len) (b .calls) (c .before .before .summed .result) (c .before .before .summed .ensures) long in
-    (playing-start b (a .args .position) (a .args .bytes .now) (a .args .out .now) (c .before .before .before .before .before .least .result) long (a .pre .0), beside)
+    (playing-start b (a .args .position) (a .args .bytes .now) (a .args .out .now) (c .before .before .before .before .before .least .result) long (a .pre .0), beside, omega (arith, a .good))
 
 place-on-requires : tie.Need-place-on-requires Inv-loop μ-loop
 place-on-requires c κs =
@@ -77,6 +78,26 @@ write-line-requires-2 : tie.Need-write-line-requires-2 Inv-loop μ-loop
 write-line-requires-2 c κs =
     omega (arith, c .before .before .before .before .before .before .before .before .before .before .before .before .before .before .before .before .loop, c .before .before .before .before .before .before .before .before .before .before .before .before .before .before .before .loop-test, c .before .before .before .before .before .before .before .before .before .before .before .before .before .before .before .before .before .before .before .before .before .before .before .before .before .good, c .before .before .before .before .before .before .before .before .before .before .before .before .before .before .before .before .before .before .before .before .before .before .before .before .before .pre, c .before .before .before .before .before .before .before .before .before .before .before .before .before .before .before .before .before .before .before .before .before .before .least .ensures, c .before .before .before .before .before .before .before .before .before .before .before .before .before .before .before .before .before .before .before .before .before .before .before .before .before .fits, tested-short (c .before .before .before .before .before .before .before .before .before .before .before .before .before .before .before .before .before .before .before .before .before .before .before .before .before .args .b) (c .before .before .before .before .before .before .before .before .before .before .before .before .before .before .before .before .before .before .before .before .before .before .before .before .before .pre .0), c .before .before .before .before .before .before .before .before .before .before .before .before .before .before .before .before .loop .inv .0 .upto, c .before .before .before .before .before .before .before .before .before .before .before .before .before .before .before .before .loop .inv .0 .room, c .before .before .before .before .before .before .before .before .before .before .before .before .before .before .before .before .loop .inv .0 .same)
 
+acted-requires : tie.Need-acted-requires Inv-loop μ-loop
+acted-requires c κs =
+    let a = c .before .before .before .before .before .before .before .before .before .before .before .before .before .before .before .before .before .before .before .before in
+    let b = a .args .b in
+    let h = tested-short b (a .pre .0) in
+    let v = c .before .before .before .before .before .before .before .before .before .before .before .loop in
+    let w = v .inv .1 in
+    let ev = c .before .before .before .before .before .before .before .before .before .event-at in
+    let e = ev .result in
+    let pl = c .before .before .before .before .before .before .before .place-on in
+    let wi = c .before .before .before .before .before .before .within in
+    let id = c .before .before .before .identifier-in in
+    let t = c .before .before .turned in
+    let d = notes (v .free) (v .soon) (v .dues) (v .held) in
+    let late : e .time ≤ never = omega (arith, ev .ok) in
+    let seen : Seen = record { len = b .len; place = pl .result; identifier = id .result; call = getD (v .calls) (wi .result) unread } in
+    let near : pl .result < b .len → wi .result ≡ pl .result = λ l. wi .ensures ∙ within-near (pl .result) (b .len) l in
+    let there : pl .result < b .len → seen .call ≡ getD (v .calls) (pl .result) freeCall = λ l. ap (λ i. getD (v .calls) i unread) (near l) ∙ read-any (v .calls) (pl .result) unread freeCall (omega (arith, l, w .long, h)) in
+    turn-doable (boardNow b (v .s) (v .calls)) d e h w late seen refl (pl .ensures) there (id .ensures) (t .result) (t .ensures) (c .enum-told2 .given .1) (v .inv .2)
+
 mul-calls : tie.Need-mul-calls Inv-loop μ-loop
 mul-calls c =
     let wi = c .before .before .before .before .before .before .before .before .within in
@@ -106,12 +127,14 @@ flip-requires c κs =
     let t = c .before .before .before .before .turned in
     let d = notes (v .free) (v .soon) (v .dues) (v .held) in
     let late : e .time ≤ never = omega (arith, ev .ok) in
-    let seen : Seen = record { len = b .len; place = pl .result; identifier = id .result; call = getD (v .calls) (wi .result) freeCall } in
+    let seen : Seen = record { len = b .len; place = pl .result; identifier = id .result; call = getD (v .calls) (wi .result) unread } in
     let near : pl .result < b .len → wi .result ≡ pl .result = λ l. wi .ensures ∙ within-near (pl .result) (b .len) l in
-    let there : pl .result < b .len → seen .call ≡ getD (v .calls) (pl .result) freeCall = λ l. ap (λ i. getD (v .calls) i freeCall) (near l) in
-    let known = c .before .before .t2 .given in
-    let l = turn-there (boardNow b (v .s) (v .calls)) d e h w late seen refl (pl .ensures) there (id .ensures) (t .result) (t .ensures) (known .0 .0) (known .1) in
-    rw (near l) (may-flip (b .len) (v .calls) (v .free) (v .soon) (v .dues) (v .held) h w (pl .result) (known .0 .0 .call) l)
+    let there : pl .result < b .len → seen .call ≡ getD (v .calls) (pl .result) freeCall = λ l. ap (λ i. getD (v .calls) i unread) (near l) ∙ read-any (v .calls) (pl .result) unread freeCall (omega (arith, l, w .long, h)) in
+    let known = c .before .before .enum-told2 .given in
+    let x = c .before .acted .result in
+    let l = turn-there (boardNow b (v .s) (v .calls)) d e h w late seen refl (pl .ensures) there (id .ensures) (t .result) (t .ensures) (known .1) in
+    rw (near l, read-any (v .calls) (pl .result) unread freeCall (omega (arith, l, w .long, h)))
+    (may-flip (b .len) (v .calls) (v .free) (v .soon) (v .dues) (v .held) h w (pl .result) (x .call) l)
 
 mul-dues : tie.Need-mul-dues Inv-loop μ-loop
 mul-dues c =
@@ -179,26 +202,26 @@ loop-again c =
     let t = c .before .turned in
     let d = notes (v .free) (v .soon) (v .dues) (v .held) in
     let late : e .time ≤ never = omega (arith, ev .ok) in
-    let seen : Seen = record { len = b .len; place = pl .result; identifier = id .result; call = getD (v .calls) (wi .result) freeCall } in
+    let seen : Seen = record { len = b .len; place = pl .result; identifier = id .result; call = getD (v .calls) (wi .result) unread } in
     let near : pl .result < b .len → wi .result ≡ pl .result = λ l. wi .ensures ∙ within-near (pl .result) (b .len) l in
-    let there : pl .result < b .len → seen .call ≡ getD (v .calls) (pl .result) freeCall = λ l. ap (λ i. getD (v .calls) i freeCall) (near l) in
+    let there : pl .result < b .len → seen .call ≡ getD (v .calls) (pl .result) freeCall = λ l. ap (λ i. getD (v .calls) i unread) (near l) ∙ read-any (v .calls) (pl .result) unread freeCall (omega (arith, l, w .long, h)) in
     let wide : c .before .before .before .before .before .before .before .before .before .before .before .before .before .before .before .before .least .result * 96 ≤ length (a .args .out .now) = omega (arith, c .before .before .before .before .before .before .before .before .before .before .loop, c .before .before .before .before .before .before .before .before .before .loop-test, c .before .before .before .before .before .before .before .before .before .before .before .before .before .before .before .before .before .before .before .good, c .before .before .before .before .before .before .before .before .before .before .before .before .before .before .before .before .before .before .before .pre, c .before .before .before .before .before .before .before .before .before .before .before .before .before .before .before .before .least .ensures, c .before .before .before .before .before .before .before .before .before .before .before .before .before .before .before .before .before .before .before .fits, tested-short (c .before .before .before .before .before .before .before .before .before .before .before .before .before .before .before .before .before .before .before .args .b) (c .before .before .before .before .before .before .before .before .before .before .before .before .before .before .before .before .before .before .before .pre .0), c .before .before .before .before .before .before .before .before .before .before .loop .inv .0 .upto, c .before .before .before .before .before .before .before .before .before .before .loop .inv .0 .room, c .before .before .before .before .before .before .before .before .before .before .loop .inv .0 .same) in
     ⊎-elim
     (λ y.
     let known = y .1 .given in
-    rw (y .8, y .9, y .10, y .11, y .12, y .13, y .14, y .15) (playing-refused b (a .args .position) (a .args .bytes .now) (a .args .out .now) (c .before .before .before .before .before .before .before .before .before .before .before .before .before .before .before .before .least .result) (v .s) (v .calls) (v .out) (v .at) (v .k) (v .inv .0) (c .before .before .before .before .before .before .before .before .before .loop-test .taken) e (ev .ensures) (known .0 .0) (y .5 .last .0) (y .5 .result) (turn-refused (boardNow b (v .s) (v .calls)) d e h w late seen refl (pl .ensures) there (id .ensures) (t .result) (t .ensures) (known .0 .0) (known .1) .1) (y .3 .result) (y .3 .ensures) (y .5 .ensures .0) (y .5 .ensures .1) wide (y .5 .kept .0), w))
+    rw (y .8, y .9, y .10, y .11, y .12, y .13, y .14, y .15) (playing-refused b (a .args .position) (a .args .bytes .now) (a .args .out .now) (c .before .before .before .before .before .before .before .before .before .before .before .before .before .before .before .before .least .result) (v .s) (v .calls) (v .out) (v .at) (v .k) (v .inv .0) (c .before .before .before .before .before .before .before .before .before .loop-test .taken) e (ev .ensures) (known .0 .0) (y .5 .last .0) (y .5 .result) (turn-refused (boardNow b (v .s) (v .calls)) d e h w late seen refl (pl .ensures) there (id .ensures) (t .result) (t .ensures) (known .0 .0) (known .1) .1) (y .3 .result) (y .3 .ensures) (y .5 .ensures .0) (y .5 .ensures .1) wide (y .5 .kept .0), w, v .inv .2))
     (⊎-elim
     (λ y.
     let known = y .1 .given in
     let soon = beside-soon (b .len) (v .calls) (v .free) (v .soon) (v .dues) (v .held) w _ (e .time) (y .3 .ensures) in
-    rw (y .10, y .11, y .12, y .13, y .14, y .15, y .16, y .17) (playing-none b (a .args .position) (a .args .bytes .now) (a .args .out .now) (c .before .before .before .before .before .before .before .before .before .before .before .before .before .before .before .before .least .result) (v .s) (v .calls) (v .out) (v .at) (v .k) (v .inv .0) (c .before .before .before .before .before .before .before .before .before .loop-test .taken) e (ev .ensures) _ (y .7 .last .0) (y .7 .result) (rw (y .4 .ensures) (turn-none (boardNow b (v .s) (v .calls)) d e h w late seen refl (pl .ensures) there (id .ensures) (t .result) (t .ensures) (known .1))) (y .5 .result) (y .5 .ensures) (y .7 .ensures .0) (y .7 .ensures .1) wide (y .7 .kept .0), soon))
+    rw (y .10, y .11, y .12, y .13, y .14, y .15, y .16, y .17) (playing-none b (a .args .position) (a .args .bytes .now) (a .args .out .now) (c .before .before .before .before .before .before .before .before .before .before .before .before .before .before .before .before .least .result) (v .s) (v .calls) (v .out) (v .at) (v .k) (v .inv .0) (c .before .before .before .before .before .before .before .before .before .loop-test .taken) e (ev .ensures) _ (y .7 .last .0) (y .7 .result) (rw (y .4 .ensures) (turn-none (boardNow b (v .s) (v .calls)) d e h w late seen refl (pl .ensures) there (id .ensures) (t .result) (t .ensures) (known .1))) (y .5 .result) (y .5 .ensures) (y .7 .ensures .0) (y .7 .ensures .1) wide (y .7 .kept .0), soon, rw (y .4 .ensures) (v .inv .2)))
     (λ y.
     let known = y .1 .given in
-    let x = known .0 .0 in
-    let l = turn-there (boardNow b (v .s) (v .calls)) d e h w late seen refl (pl .ensures) there (id .ensures) (t .result) (t .ensures) x (known .1) in
+    let x = y .2 .result in
+    let l = turn-there (boardNow b (v .s) (v .calls)) d e h w late seen refl (pl .ensures) there (id .ensures) (t .result) (t .ensures) (known .1) in
     let i = near l in
-    let kept = beside-next (b .len) (v .calls) (v .free) (v .soon) (v .dues) (v .held) h w (wi .result) _ _ _ _ (x .call) (rw i l) (y .4 .ensures) (y .5 .ensures) (y .6 .ensures) (y .7 .ensures) in
-    rw (y .14, y .15, y .16, y .17, y .18, y .19, y .20, y .21) (playing-done b (a .args .position) (a .args .bytes .now) (a .args .out .now) (c .before .before .before .before .before .before .before .before .before .before .before .before .before .before .before .before .least .result) (v .s) (v .calls) (v .out) (v .at) (v .k) (v .inv .0) (c .before .before .before .before .before .before .before .before .before .loop-test .taken) e (ev .ensures) (wi .result) _ x (y .11 .last .0) (y .11 .result) (rw (y .8 .ensures, i) (turn-done (boardNow b (v .s) (v .calls)) d e h w late seen refl (pl .ensures) there (id .ensures) (t .result) (t .ensures) x (known .1))) (y .9 .result) (y .9 .ensures) (y .11 .ensures .0) (y .11 .ensures .1) wide (y .11 .kept .0), kept)))
+    let kept = beside-next (b .len) (v .calls) (v .free) (v .soon) (v .dues) (v .held) h w (wi .result) _ _ _ _ (x .call) (rw i l) (rw (read-any (v .calls) (wi .result) unread freeCall (omega (arith, l, i, w .long, h))) at (y .4 .ensures)) (y .5 .ensures) (y .6 .ensures) (y .7 .ensures) in
+    rw (y .14, y .15, y .16, y .17, y .18, y .19, y .20, y .21) (playing-done b (a .args .position) (a .args .bytes .now) (a .args .out .now) (c .before .before .before .before .before .before .before .before .before .before .before .before .before .before .before .before .least .result) (v .s) (v .calls) (v .out) (v .at) (v .k) (v .inv .0) (c .before .before .before .before .before .before .before .before .before .loop-test .taken) e (ev .ensures) (wi .result) _ x (y .11 .last .0) (y .11 .result) (rw (y .8 .ensures, i) (turn-done (boardNow b (v .s) (v .calls)) d e h w late seen refl (pl .ensures) there (id .ensures) (t .result) (t .ensures) x (known .1) (y .2 .ensures))) (y .9 .result) (y .9 .ensures) (y .11 .ensures .0) (y .11 .ensures .1) wide (y .11 .kept .0), kept, rw (y .8 .ensures) (v .inv .2))))
     (c .match .came)
 
 returns : tie.Need-returns Inv-loop μ-loop
@@ -226,7 +249,7 @@ play-spec =
     place-on-requires (λ c κs. tt) mul-c array-copy-out-c identifier-in-requires (λ c κs. tt)
     (λ c. search needs) (λ c κs. tt) add-write-line write-line-requires
     (λ c. search needs) refresh-requires (λ c κs. tt) (λ c κs. tt) add-write-line-2 write-line-requires-2
-    (λ c. search needs) mul-calls array-set-from-calls flip-requires (λ c κs. tt) mul-dues array-write-dues (λ c κs. tt) (λ c κs. tt) mul-held array-write-held (λ c κs. tt)
+    (λ c. search needs) acted-requires mul-calls array-set-from-calls flip-requires (λ c κs. tt) mul-dues array-write-dues (λ c κs. tt) (λ c κs. tt) mul-held array-write-held (λ c κs. tt)
     cast-answer-of (λ c κs. tt) add-write-line-3 write-line-requires-3
     add-k loop-less loop-again
     (λ c. omega (arith, c .before .loop, c .loop-test, c .before .before .before .before .before .before .before .before .before .before .good, c .before .before .before .before .before .before .before .before .before .before .pre, c .before .before .before .before .before .before .before .least .ensures, c .before .before .before .before .before .before .before .before .before .before .fits, tested-short (c .before .before .before .before .before .before .before .before .before .before .args .b) (c .before .before .before .before .before .before .before .before .before .before .pre .0), c .before .loop .inv .0 .upto, c .before .loop .inv .0 .room, c .before .loop .inv .0 .same))

@@ -7,12 +7,13 @@ use borrow.Author.Needs.{needs}
 use lib.ListN.{length, getD, set}
 use Rattle.ground.proofs.Walks.{mapped-long}
 use Rattle.call.specs.Record.{freeCall}
+use Rattle.call.proofs.Read.{unread, read-any}
 use Rattle.notes.specs.Notes.{never}
 use Rattle.turn.specs.declared.Seen.{Seen}
 use Rattle.board.specs.Board.{stepSoundBoard, within}
 use Rattle.board.proofs.Boards.{within-small, within-near}
 use Rattle.board.proofs.Beside.{notes, boardNow, Beside, beside-start, beside-soon, beside-next, may-flip}
-use Rattle.board.proofs.Steps.{turn-refused, turn-none, turn-there, turn-done}
+use Rattle.board.proofs.Steps.{turn-refused, turn-none, turn-there, turn-doable, turn-done}
 use Rattle.runs.proofs.Folds.{first-none}
 use Rattle.runs.proofs.Playing.{Playing, playing-refused, playing-none, playing-done}
 use Rattle.runs.proofs.run_tested.Statement.{statement}
@@ -20,7 +21,7 @@ use Rattle.runs.proofs.run_tested.Tie as tie
 
 abbrev Inv-loop : tie.InvT-loop
 Inv-loop events calls₀ s₀ len free₀ soon₀ dues₀ held₀ done₀ refused₀ n k₀ calls s free soon dues held done refused k =
-    (k ≤ n) × Playing (record { station = s₀; len = len; calls = calls₀ }) events calls s (notes free soon dues held) done refused k
+    (k ≤ n) × Playing (record { station = s₀; len = len; calls = calls₀ }) events calls s (notes free soon dues held) done refused k × (s .limit < 256)
 
 abbrev μ-loop : tie.MeasureT-loop
 μ-loop events calls₀ s₀ len free₀ soon₀ dues₀ held₀ done₀ refused₀ n k₀ calls s free soon dues held done refused k = n - k
@@ -31,7 +32,7 @@ loop-holds c =
     let b = s .args .b in
     let long : length (b .calls) ≡ 64 = search (mapped-long, s .good) in
     let beside = beside-start (b .len) (b .calls) (c .before .before .summed .result) (c .before .before .summed .ensures) long in
-    (omega arith, record { beside = beside; count = refl; so-far = sym (first-none stepSoundBoard b (s .args .events .now)) })
+    (omega arith, record { beside = beside; count = refl; so-far = sym (first-none stepSoundBoard b (s .args .events .now)) }, omega (arith, s .good))
 
 place-on-requires : tie.Need-place-on-requires Inv-loop μ-loop
 place-on-requires c κs =
@@ -66,6 +67,25 @@ refresh-requires c κs =
 add-done : tie.Need-add-done Inv-loop μ-loop
 add-done c = omega (arith, c .before .before .before .before .before .before .before .before .before .before .before .before .before .before .loop, c .before .before .before .before .before .before .before .before .before .before .before .before .before .loop-test, c .before .before .before .before .before .before .before .before .before .before .before .before .before .before .before .before .before .before .before .before .before .good, c .before .before .before .before .before .before .before .before .before .before .before .before .before .before .before .before .before .before .before .before .before .pre)
 
+acted-requires : tie.Need-acted-requires Inv-loop μ-loop
+acted-requires c κs =
+    let a = c .before .before .before .before .before .before .before .before .before .before .before .before .before .before .before .before .before .before in
+    let b = a .args .b in
+    let v = c .before .before .before .before .before .before .before .before .before .before .before .loop in
+    let w = v .inv .1 in
+    let ev = c .before .before .before .before .before .before .before .before .before .event-at in
+    let e = ev .result in
+    let pl = c .before .before .before .before .before .before .before .place-on in
+    let wi = c .before .before .before .before .before .before .within in
+    let id = c .before .before .before .identifier-in in
+    let t = c .before .before .turned in
+    let d = notes (v .free) (v .soon) (v .dues) (v .held) in
+    let late : e .time ≤ never = omega (arith, ev .ok) in
+    let seen : Seen = record { len = b .len; place = pl .result; identifier = id .result; call = getD (v .calls) (wi .result) unread } in
+    let near : pl .result < b .len → wi .result ≡ pl .result = λ l. wi .ensures ∙ within-near (pl .result) (b .len) l in
+    let there : pl .result < b .len → seen .call ≡ getD (v .calls) (pl .result) freeCall = λ l. ap (λ i. getD (v .calls) i unread) (near l) ∙ read-any (v .calls) (pl .result) unread freeCall (omega (arith, l, w .beside .long, a .pre)) in
+    turn-doable (boardNow b (v .s) (v .calls)) d e (a .pre) (w .beside) late seen refl (pl .ensures) there (id .ensures) (t .result) (t .ensures) (c .enum-told3 .given .1) (v .inv .2)
+
 mul-calls : tie.Need-mul-calls Inv-loop μ-loop
 mul-calls c =
     let wi = c .before .before .before .before .before .before .before .before .within in
@@ -94,12 +114,14 @@ flip-requires c κs =
     let t = c .before .before .before .before .turned in
     let d = notes (v .free) (v .soon) (v .dues) (v .held) in
     let late : e .time ≤ never = omega (arith, ev .ok) in
-    let seen : Seen = record { len = b .len; place = pl .result; identifier = id .result; call = getD (v .calls) (wi .result) freeCall } in
+    let seen : Seen = record { len = b .len; place = pl .result; identifier = id .result; call = getD (v .calls) (wi .result) unread } in
     let near : pl .result < b .len → wi .result ≡ pl .result = λ l. wi .ensures ∙ within-near (pl .result) (b .len) l in
-    let there : pl .result < b .len → seen .call ≡ getD (v .calls) (pl .result) freeCall = λ l. ap (λ i. getD (v .calls) i freeCall) (near l) in
-    let known = c .before .before .t .given in
-    let l = turn-there (boardNow b (v .s) (v .calls)) d e (a .pre) (w .beside) late seen refl (pl .ensures) there (id .ensures) (t .result) (t .ensures) (known .0 .0) (known .1) in
-    rw (near l) (may-flip (b .len) (v .calls) (v .free) (v .soon) (v .dues) (v .held) (a .pre) (w .beside) (pl .result) (known .0 .0 .call) l)
+    let there : pl .result < b .len → seen .call ≡ getD (v .calls) (pl .result) freeCall = λ l. ap (λ i. getD (v .calls) i unread) (near l) ∙ read-any (v .calls) (pl .result) unread freeCall (omega (arith, l, w .beside .long, a .pre)) in
+    let known = c .before .before .enum-told3 .given in
+    let x = c .before .acted .result in
+    let l = turn-there (boardNow b (v .s) (v .calls)) d e (a .pre) (w .beside) late seen refl (pl .ensures) there (id .ensures) (t .result) (t .ensures) (known .1) in
+    rw (near l, read-any (v .calls) (pl .result) unread freeCall (omega (arith, l, w .beside .long, a .pre)))
+    (may-flip (b .len) (v .calls) (v .free) (v .soon) (v .dues) (v .held) (a .pre) (w .beside) (pl .result) (x .call) l)
 
 mul-dues : tie.Need-mul-dues Inv-loop μ-loop
 mul-dues c =
@@ -152,26 +174,26 @@ loop-again c =
     let t = c .before .turned in
     let d = notes (v .free) (v .soon) (v .dues) (v .held) in
     let late : e .time ≤ never = omega (arith, ev .ok) in
-    let seen : Seen = record { len = b .len; place = pl .result; identifier = id .result; call = getD (v .calls) (wi .result) freeCall } in
+    let seen : Seen = record { len = b .len; place = pl .result; identifier = id .result; call = getD (v .calls) (wi .result) unread } in
     let near : pl .result < b .len → wi .result ≡ pl .result = λ l. wi .ensures ∙ within-near (pl .result) (b .len) l in
-    let there : pl .result < b .len → seen .call ≡ getD (v .calls) (pl .result) freeCall = λ l. ap (λ i. getD (v .calls) i freeCall) (near l) in
+    let there : pl .result < b .len → seen .call ≡ getD (v .calls) (pl .result) freeCall = λ l. ap (λ i. getD (v .calls) i unread) (near l) ∙ read-any (v .calls) (pl .result) unread freeCall (omega (arith, l, w .beside .long, a .pre)) in
     let more : v .k + 1 ≤ length (a .args .events .now) / 24 = omega (arith, v .inv .0, c .before .before .before .before .before .before .before .before .before .loop-test) in
     ⊎-elim
     (λ y.
     let known = y .1 .given in
-    (more, rw (y .2, y .3, y .4, y .5, y .6, y .7, y .8, y .9) (playing-refused b (a .args .events .now) (v .calls) (v .s) d (v .done) (v .refused) (v .k) w e (ev .ensures) (known .0 .0) (turn-refused (boardNow b (v .s) (v .calls)) d e (a .pre) (w .beside) late seen refl (pl .ensures) there (id .ensures) (t .result) (t .ensures) (known .0 .0) (known .1)))))
+    (more, rw (y .2, y .3, y .4, y .5, y .6, y .7, y .8, y .9) (playing-refused b (a .args .events .now) (v .calls) (v .s) d (v .done) (v .refused) (v .k) w e (ev .ensures) (known .0 .0) (turn-refused (boardNow b (v .s) (v .calls)) d e (a .pre) (w .beside) late seen refl (pl .ensures) there (id .ensures) (t .result) (t .ensures) (known .0 .0) (known .1))), rw (y .3) (v .inv .2)))
     (⊎-elim
     (λ y.
     let known = y .1 .given in
     let soon = beside-soon (b .len) (v .calls) (v .free) (v .soon) (v .dues) (v .held) (w .beside) _ (e .time) (y .3 .ensures) in
-    (more, rw (y .5, y .6, y .7, y .8, y .9, y .10, y .11, y .12) (playing-none b (a .args .events .now) (v .calls) (v .s) d (v .done) (v .refused) (v .k) w e (ev .ensures) (notes (v .free) (y .3 .result) (v .dues) (v .held)) _ soon (rw (y .4 .ensures) (turn-none (boardNow b (v .s) (v .calls)) d e (a .pre) (w .beside) late seen refl (pl .ensures) there (id .ensures) (t .result) (t .ensures) (known .1))))))
+    (more, rw (y .5, y .6, y .7, y .8, y .9, y .10, y .11, y .12) (playing-none b (a .args .events .now) (v .calls) (v .s) d (v .done) (v .refused) (v .k) w e (ev .ensures) (notes (v .free) (y .3 .result) (v .dues) (v .held)) _ soon (rw (y .4 .ensures) (turn-none (boardNow b (v .s) (v .calls)) d e (a .pre) (w .beside) late seen refl (pl .ensures) there (id .ensures) (t .result) (t .ensures) (known .1)))), rw (y .6, y .4 .ensures) (v .inv .2)))
     (λ y.
     let known = y .1 .given in
-    let x = known .0 .0 in
-    let l = turn-there (boardNow b (v .s) (v .calls)) d e (a .pre) (w .beside) late seen refl (pl .ensures) there (id .ensures) (t .result) (t .ensures) x (known .1) in
+    let x = y .2 .result in
+    let l = turn-there (boardNow b (v .s) (v .calls)) d e (a .pre) (w .beside) late seen refl (pl .ensures) there (id .ensures) (t .result) (t .ensures) (known .1) in
     let i = near l in
-    let kept = beside-next (b .len) (v .calls) (v .free) (v .soon) (v .dues) (v .held) (a .pre) (w .beside) (wi .result) _ _ _ _ (x .call) (rw i l) (y .4 .ensures) (y .5 .ensures) (y .6 .ensures) (y .7 .ensures) in
-    (more, rw (y .9, y .10, y .11, y .12, y .13, y .14, y .15, y .16) (playing-done b (a .args .events .now) (v .calls) (v .s) d (v .done) (v .refused) (v .k) w e (ev .ensures) _ (wi .result) _ x kept (rw (y .8 .ensures, i) (turn-done (boardNow b (v .s) (v .calls)) d e (a .pre) (w .beside) late seen refl (pl .ensures) there (id .ensures) (t .result) (t .ensures) x (known .1)))))))
+    let kept = beside-next (b .len) (v .calls) (v .free) (v .soon) (v .dues) (v .held) (a .pre) (w .beside) (wi .result) _ _ _ _ (x .call) (rw i l) (rw (read-any (v .calls) (wi .result) unread freeCall (omega (arith, l, i, w .beside .long, a .pre))) at (y .4 .ensures)) (y .5 .ensures) (y .6 .ensures) (y .7 .ensures) in
+    (more, rw (y .9, y .10, y .11, y .12, y .13, y .14, y .15, y .16) (playing-done b (a .args .events .now) (v .calls) (v .s) d (v .done) (v .refused) (v .k) w e (ev .ensures) _ (wi .result) _ x kept (rw (y .8 .ensures, i) (turn-done (boardNow b (v .s) (v .calls)) d e (a .pre) (w .beside) late seen refl (pl .ensures) there (id .ensures) (t .result) (t .ensures) x (known .1) (y .2 .ensures)))), rw (y .10, y .8 .ensures) (v .inv .2))))
     (c .match .came)
 
 returns : tie.Need-returns Inv-loop μ-loop
@@ -187,6 +209,6 @@ run-tested-spec =
     Inv-loop μ-loop (λ c κs. search needs) loop-holds (λ c. omega arith) (λ c κs. search needs) place-on-requires (λ c κs. tt) mul-c array-copy-out-c identifier-in-requires (λ c κs. tt)
     (λ c. search needs) add-refused
     (λ c. search needs) refresh-requires (λ c κs. tt) add-done
-    (λ c. search needs) mul-calls array-set-from-calls flip-requires (λ c κs. tt) mul-dues array-write-dues (λ c κs. tt) (λ c κs. tt) mul-held array-write-held (λ c κs. tt) add-done-2
+    (λ c. search needs) acted-requires mul-calls array-set-from-calls flip-requires (λ c κs. tt) mul-dues array-write-dues (λ c κs. tt) (λ c κs. tt) mul-held array-write-held (λ c κs. tt) add-done-2
     add-k loop-less loop-again
     returns)

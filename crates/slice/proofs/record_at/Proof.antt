@@ -45,12 +45,11 @@ use denote.Triple.Table.{entered, cited}
 use denote.Triple.Walked.{says, needs, Stays, stay-none-slice, stay-none, walkOf, Walks, ends-at, walked, goes-none-slice, goes-none, walk-meets}
 use Rattle.call.specs.declared.Call.{Call}
 use Rattle.call.specs.Record.{freeCall}
-use Rattle.call.proofs.Call.Laws as S′
 use Rattle.call.proofs.free_call as free
 use Rattle.call.proofs.free_call.Symbol as free-def
 use Rattle.call.proofs.free_call.Met as free-thm
 use Rattle.station.specs.Table.{at as record-of}
-use Rattle.slice.proofs.Row.{R, cell, bytes, shared, vals, tells, makes, typed, typed-at, copies}
+use Rattle.slice.proofs.Row.{R, cell, bytes, shared, vals, low, tells, makes, typed, typed-at, copies}
 use Rattle.slice.proofs.Records.{record-in, record-past}
 use Rattle.slice.proofs.record_at.Key.{name as #lent·record-at}
 use Rattle.slice.proofs.record_at as at′
@@ -107,10 +106,10 @@ module _ {M : Type 1} (𝓤 : URA M) (H : Heap 𝓤) (A : Atoms 𝓤) (W : Given
   abbrev Parts : Fml
   Parts = fshr-bor κ (λ t. arr-parts (shares R) (length ys) .part t ys b o)
 
-  exits : (c : Call) → Is R c (vals c) → c ≡ record-of (take n ys) i → ent 𝓤 (⋆ 𝓤 H A (‵ (flft κ q) ∷ ‵ Parts ∷ ‵ (fres γ (codedHoleys R .code (heres R ys))) ∷ [])) (Post (S′.lowered c))
+  exits : (c : Call) → Is R c (vals c) → c ≡ record-of (take n ys) i → ent 𝓤 (⋆ 𝓤 H A (‵ (flft κ q) ∷ ‵ Parts ∷ ‵ (fres γ (codedHoleys R .code (heres R ys))) ∷ [])) (Post (low c))
   exits c g e =
       qed W (‵ (flft κ q) ∷ ‵ Parts ∷ ‵ (fres γ (codedHoleys R .code (heres R ys))) ∷ []) ∵
-      suffices ! _ (ends-at 𝓤 H A at′.ended stayed (at′.clauses 𝓤 H A mem run) W bound (S′.lowered c) c (tt, (tt, (tt, tt))) (tt, (tt, (tt, tt)))) $ says ! e $
+      suffices ! _ (ends-at 𝓤 H A at′.ended stayed (at′.clauses 𝓤 H A mem run) W bound (low c) c (tt, (tt, (tt, tt))) (tt, (tt, (tt, tt)))) $ says ! e $
       nothing ! $ move ! (1 ∷ 0 ∷ []) $ join ! $ frame ! $
       move ! (1 ∷ 0 ∷ []) $ fjoin ! $ pureI ! (at-slice R x (at .0)) (tt, (tt, tt)) (refl, room) $ fjoin ! $
       nothing ! $ owned ! usize (Is usize) (uint-makes 𝓤 H A W w64) i (vint w64 i ∷ []) (refl, gi) $ fjoin ! $
@@ -155,7 +154,7 @@ module _ {M : Type 1} (𝓤 : URA M) (H : Heap 𝓤) (A : Atoms 𝓤) (W : Given
       use1 W (later (some (λ (c : Call). (‵ ftrue ⊛ ‵ (R .own c (v ∷ []))) ⊛ raw (ensured 𝓤 H A free.ended (free.clauses 𝓤 H A mem run) tt tt tt c)))) (id⊢ 𝓤 _) $ await ! tt $ pick ! (λ c.
       split ! $ move ! (1 ∷ []) $ use1 W (raw (fact 𝓤 (c ≡ freeCall))) (free-of 𝓤 H A mem run c) $ heard ! (c ≡ freeCall) (λ e. split ! $ drop ! $
       peeks ! R (Is R) (shows 𝓤 H A R) c (v ∷ []) (λ gc.
-      land ! (from ! (stop !)) (init ! 21 refl (typed-at 𝓤 H A W c v gc)) $ rewrite ! 21 (λ (u : Val). ‵ (fat fullShare cell l₀ 0 u)) (ap only (S′.lowers .val-is c (v ∷ []) gc) ∙ ap S′.lowered e) refl $ drop ! $
+      land ! (from ! (stop !)) (init ! 21 refl (typed-at 𝓤 H A W c v gc)) $ rewrite ! 21 (λ (u : Val). ‵ (fat fullShare cell l₀ 0 u)) (ap only (tells c (v ∷ []) gc) ∙ ap low e) refl $ drop ! $
       returns ! (look ! 20 refl) $ forget ! 12 refl $ forget ! 14 refl $ forget ! 16 refl $ forget ! 18 refl $ forget ! 20 refl $
       move ! (20 ∷ 21 ∷ []) $ free1 ! $ move ! (18 ∷ 19 ∷ []) $ free1 ! $ move ! (16 ∷ 17 ∷ []) $ free1 ! $ move ! (14 ∷ 15 ∷ []) $ free1 ! $ move ! (12 ∷ 13 ∷ []) $ free1 ! $ move ! (10 ∷ 11 ∷ []) $ free1 ! $ move ! (8 ∷ 9 ∷ []) $ free1 ! $ move ! (6 ∷ 7 ∷ []) $ free1 ! $ free0 ! $
       keep ! (1 ∷ 0 ∷ 3 ∷ []) $ by ! (exits freeCall (is-free c v e gc) (record-past n ys i (nltb→le i n failed))))))))))))))))

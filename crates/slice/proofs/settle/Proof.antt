@@ -42,9 +42,8 @@ use denote.Triple.Walked.{says, needs, Stays, stay-slice, stay-none, walkOf, Wal
 use Rattle.ground.proofs.Bools.{is-false}
 use Rattle.call.specs.declared.Call.{Call}
 use Rattle.call.specs.Record.{freeCall}
-use Rattle.call.proofs.Call.Laws as S′
 use Rattle.slice.specs.Table.{settledAt}
-use Rattle.slice.proofs.Row.{R, cell, bytes, slice, vals, tells, makes, typed}
+use Rattle.slice.proofs.Row.{R, cell, bytes, slice, vals, low, tells, makes, typed}
 use Rattle.slice.proofs.Records.{settled-none, settled-there}
 use Rattle.slice.proofs.settle.Key.{name as #lent·settle}
 use Rattle.slice.proofs.settle as settle′
@@ -99,9 +98,9 @@ module _ {M : Type 1} (𝓤 : URA M) (H : Heap 𝓤) (A : Atoms 𝓤) (W : Given
   after-length : length after ≡ length ys
   after-length = length-set ys p c
 
-  walk : (C : Calls 𝓤 H) (Λ : Loops 𝓤 H) → ent 𝓤 (onEntry 𝓤 H A settle′.signature (κ, tt) (q, tt) a at) (WpFn 𝓤 H C Λ code.function (s ∷ vint w64 p ∷ vint w64 n ∷ S′.lowered c ∷ []) Post)
+  walk : (C : Calls 𝓤 H) (Λ : Loops 𝓤 H) → ent 𝓤 (onEntry 𝓤 H A settle′.signature (κ, tt) (q, tt) a at) (WpFn 𝓤 H C Λ code.function (s ∷ vint w64 p ∷ vint w64 n ∷ low c ∷ []) Post)
   walk C Λ =
-      qed W ((‵ (flft κ q) ⊛ ‵ ftrue) ∷ ‵ (owns (MutSlice (named 0) κ R ∷ usize ∷ usize ∷ R ∷ []) a at) ∷ []) ∵ enter ! C Λ code.function (s ∷ vint w64 p ∷ vint w64 n ∷ S′.lowered c ∷ []) _ $
+      qed W ((‵ (flft κ q) ⊛ ‵ ftrue) ∷ ‵ (owns (MutSlice (named 0) κ R ∷ usize ∷ usize ∷ R ∷ []) a at) ∷ []) ∵ enter ! C Λ code.function (s ∷ vint w64 p ∷ vint w64 n ∷ low c ∷ []) _ $
       alloc1 ! (λ l₀. alloc1 ! (λ l₁. alloc1 ! (λ l₂. alloc1 ! (λ l₃. alloc1 ! (λ l₄. alloc1 ! (λ l₅. alloc1 ! (λ l₆. alloc1 ! (λ l₇. alloc0 ! $ params1 ! $
       pass1 ! (init ! 12 refl (tt, (tt, (record { fits = room .0 }, tt)))) $ pass1 ! (init ! 10 refl (tt, record { fits = gp })) $ pass1 ! (init ! 8 refl (tt, record { fits = gn })) $ pass1 ! (init ! 6 refl (typed 𝓤 H A W c gc)) $ pass0 ! $
       move ! (17 ∷ []) $ fsplit ! $ move ! (18 ∷ []) $ split ! $ move ! (2 ∷ 0 ∷ []) $ move ! (2 ∷ []) $ drop ! $ move ! (2 ∷ []) $ drop ! $

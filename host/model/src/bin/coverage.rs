@@ -1,8 +1,10 @@
 //! Counts what the generators meet: answers by kind, the shapes of done
-//! answers, identifiers passed over, and the sentences that damage breaks.
+//! answers, identifiers passed over, what happens to calls in Invoked by how
+//! many wait, and the sentences that damage breaks.
 #![forbid(unsafe_code)]
 
-use model::{codes, lent, profile, random::Random, sound, step, Answer, Event, Record, Station};
+use model::{codes, lent, profile, random::Random, sound, step, ways};
+use model::{Answer, Event, Record, Station};
 use std::collections::BTreeMap;
 
 const EVENTS: usize = 20_000;
@@ -16,6 +18,7 @@ struct Counts {
     codes: [[u32; 17]; 9],
     shapes: BTreeMap<String, u32>,
     passed_over: u32,
+    ways: ways::Ways,
 }
 
 impl Counts {
@@ -40,7 +43,9 @@ impl Counts {
     fn follow(&mut self, mut walk: profile::Walk, events: usize) {
         for _ in 0..events {
             let next = walk.station.next_identifier;
+            let before = walk.table.clone();
             let (event, answer) = walk.advance();
+            self.ways.add(&before, &event, &answer);
             self.add(next, &event, &answer);
         }
     }
@@ -52,6 +57,11 @@ impl Counts {
             println!("  {code} {cells}");
         }
         println!("  open identifiers passed over: {}", self.passed_over);
+        println!("  in Invoked, with 1, 2 to 14 and 15 waiting");
+        for name in ways::OUT.iter().chain(&ways::WITHIN) {
+            let cells = self.ways.of(name).map(|count| format!("{count:>7}"));
+            println!("  {} {name}", cells.concat());
+        }
         for (shape, count) in &self.shapes {
             println!("  {count:>7} {shape}");
         }
@@ -92,8 +102,10 @@ fn cases() {
             *alone.entry(name).or_default() += 1;
         }
         let next = case.station.next_identifier;
+        let before = case.table.clone();
         let answer = step(&mut case.table, &mut case.station, &case.event);
         counts.add(next, &case.event, &answer);
+        counts.ways.add(&before, &case.event, &answer);
     }
     counts.print("lent cases");
     println!("sentences broken alone");

@@ -99,3 +99,25 @@ pub const REQUESTED: &str = "\
 open incoming 102 at 1
 alerted call 0 at 2
 divert call 0 cfnr with-number to 300 at 3";
+
+/// INVOKED, with so many DLI1s waiting in all: behind the first, to 207, the
+/// others nominate 301, 302 and so on.
+pub fn waiting(count: usize) -> String {
+    let mut lines = INVOKED.to_string();
+    for at in 1..count {
+        let reason = ["cfb", "cfu"][at % 2];
+        lines += &format!(
+            "\nreroute call 0 leg 2 {reason} with-number counter {at} id {at} to {} at 3",
+            300 + at
+        );
+    }
+    lines
+}
+
+/// The number that leg 2 has then.
+pub fn last_waiting(count: usize) -> u16 {
+    match count {
+        1 => 207,
+        _ => 299 + count as u16,
+    }
+}
