@@ -50,7 +50,7 @@ static void play(const uint8_t *bytes, size_t len) {
     static whipsail_call table[WHIPSAIL_RECORDS];
     static whipsail_ran ran;
     whipsail_told told;
-    start = (whipsail_board){.station = whipsail_fresh(15).station, .len = WHIPSAIL_RECORDS};
+    start = (whipsail_board){.station = whipsail_fresh(15, 1, 1).station, .len = WHIPSAIL_RECORDS};
     for (size_t i = 0; i < WHIPSAIL_RECORDS; i++)
         table[i] = start.calls[i];
     whipsail_input input = {.station = start.station};

@@ -41,7 +41,7 @@ static void line(unsigned position, const whipsail_answer *a) {
 int main(void) {
     /* what a panel keeps: all 0 is a table of free records */
     static whipsail_call table[WHIPSAIL_RECORDS];
-    whipsail_station station = whipsail_fresh(15).station; /* as the printout has it; the short form has 5 */
+    whipsail_station station = whipsail_fresh(15, 1, 1).station; /* as the printout has it; the short form has 5 */
     for (unsigned i = 0; i < sizeof events / sizeof events[0]; i++) {
         whipsail_input input = {station, events[i]};
         whipsail_told told = whipsail_lent_step(table, WHIPSAIL_RECORDS, input);

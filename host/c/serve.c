@@ -11,7 +11,7 @@
  *   L count from len input call.. lends len of the count records, from one on;
  *                               replies whipsail_told and all records
  *   W event                     replies one byte: well made
- *   F limit                     replies whipsail_made
+ *   F limit enabled allowed     replies whipsail_made
  *   S                           replies whipsail_station
  *   V                           replies the archive's format number, four bytes
  *   R count place bytes         replies whipsail_read
@@ -137,9 +137,10 @@ static void well_made(void) {
 }
 
 static void fresh(void) {
-    uint8_t limit;
+    uint8_t limit, marks[2];
     take(&limit, 1);
-    whipsail_made made = whipsail_fresh(limit);
+    take(marks, 2);
+    whipsail_made made = whipsail_fresh(limit, marks[0], marks[1]);
     give(&made, sizeof made);
 }
 

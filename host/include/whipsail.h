@@ -18,7 +18,7 @@
  * Words as "Wait" or "DLI1" are those of H.450.3; party numbers are 1 to 65535,
  * and 0 is an absent one. C11 or C++11, on a machine of 64 bits.
  *
- *   whipsail_event.h   what happened: kinds of events and their fields
+ *   whipsail_event.h   what happened: kinds of events and their fields, calls and follow me
  *   whipsail_answer.h  what to send and show: codes, messages, which leg is which
  *   whipsail_kept.h    what a host keeps: the record, the station, the format's number
  *   whipsail_files.h   files of events, tables by value; a panel needs none of it
@@ -54,24 +54,27 @@ typedef struct whipsail_told {
     whipsail_station station;
 } whipsail_told;
 
-/* `code` is 0, or 3 for a limit outside 1 to 15: then no station is made. */
+/* `code` is 0, or 3 for a limit outside 1 to 15 or a mark above 1: then no station is
+ * made, and all of it is 0. */
 typedef struct whipsail_made {
     uint8_t code;
     whipsail_station station;
 } whipsail_made;
 
-/* A station of this limit: last time 0, next identifier 65535. */
-whipsail_made whipsail_fresh(uint8_t limit);
+/* A station of this limit, and with these marks: remote activation enabled, diversion
+ * to us allowed. Last time 0, next identifier 65535, nothing pending, no destination
+ * kept. */
+whipsail_made whipsail_fresh(uint8_t limit, uint8_t enabled, uint8_t allowed);
 
-/* The short form: limit 5. (It was 15 in earlier archives: a host that wants that
- * names it, whipsail_fresh(15); a station that was kept has the limit it was made
- * with.) */
+/* The short form: limit 5, both marks set. (Its limit was 15 in earlier archives: a host
+ * that wants that names it, whipsail_fresh(15, 1, 1); a station that was kept has the
+ * limit it was made with.) */
 whipsail_station whipsail_fresh_short(void);
 
 /* One event on the `len` records at `table`, 1 to 64. `table` is not null, also
  * where `len` is 0, is aligned to 8, and is touched by nobody else during the
- * call. A done event changes at most one record; a refused one none. The table
- * is tested every time. */
+ * call. A done event changes at most one record, one of kinds 16 to 31 none; a refused
+ * one changes nothing. Table and station are tested every time. */
 whipsail_told whipsail_lent_step(whipsail_call *table, size_t len, whipsail_input input);
 
 /* Whether kind and fields are as the table of kinds says: if not, a step

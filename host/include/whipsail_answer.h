@@ -16,19 +16,24 @@
 
 /* Why an event is refused, and what to do. More codes may come, of later archives
  * of the same layout: every code but WHIPSAIL_DONE is a refusal and has changed
- * nothing, so drop the event of one that you do not know, and report its number. */
+ * nothing, so drop the event of one that you do not know, and report its number. They
+ * are tested in this order; kinds 16 to 31, which name no call, never get 4, 7 or 8. */
 enum {
     WHIPSAIL_DONE = 0,
-    WHIPSAIL_NOT_SOUND = 1,        /* the table is empty, too long or not sound, the limit not 1 to 15, or the next
-                                      identifier 0: lend the records as they were left, or start again with zeroed ones
-                                      and a fresh station (whipsail_station says more of one that was kept) */
+    WHIPSAIL_NOT_SOUND = 1,        /* the table is empty, too long or not sound, or the station is not (whipsail_station
+                                      says when): lend both as they were left, or start again with zeroed records and a
+                                      fresh station */
     WHIPSAIL_TIME_BEFORE = 2,      /* its time is before that of the last done event: keep to the order of times */
-    WHIPSAIL_NOT_WELL_MADE = 3,    /* its kind or a field (or a limit, a plan or its start): correct what makes it */
+    WHIPSAIL_NOT_WELL_MADE = 3,    /* its kind or a field (or a limit, mark, plan or start): correct what makes it */
     WHIPSAIL_NO_SUCH_CALL = 4,     /* past the table's end, free, or of the other direction: look up the record */
-    WHIPSAIL_NOT_IN_STATE = 5,     /* the call's state does not take it, as a result with no request open: drop it */
-    WHIPSAIL_OTHER_IDENTIFIER = 6, /* a result or error, and the open request has another identifier: drop it */
+    WHIPSAIL_NOT_IN_STATE = 5,     /* the call's state does not take it, as a result with no request open; of kinds 24
+                                      to 31: none of its sort is pending: drop it */
+    WHIPSAIL_OTHER_IDENTIFIER = 6, /* a result or error, and the open request, of kinds 24 to 31 the pending one of its
+                                      sort, has another identifier: drop it */
     WHIPSAIL_OVER_LIMIT = 7,       /* one diversion more than the limit: let the call ring, or end it */
-    WHIPSAIL_TABLE_FULL = 8        /* an open, and no record is free: turn the call down */
+    WHIPSAIL_TABLE_FULL = 8,       /* an open, and no record is free: turn the call down */
+    WHIPSAIL_ALREADY_ASKED = 9     /* kinds 16 to 19: one of the same sort is pending: wait for its answer, or for the
+                                      clock event that ends it */
 };
 
 /* Which connection is which leg. An incoming call has leg 1 alone. Of an outgoing
@@ -75,40 +80,51 @@ enum {
  *
  *   A  ALERTING
  *   C  CONNECT
- *   D  CONNECT with DLI3       flag, number
- *   I  callRerouting invoke    reason, option, counter, identifier, destination, diverting, original
- *   R  its result              identifier
- *   E  its error               identifier
+ *   D  CONNECT with DLI3             flag, number
+ *   I  callRerouting invoke          reason, option, counter, identifier, destination, diverting, original
+ *   R  its result                    identifier
+ *   E  its error                     identifier
  *   X  RELEASE COMPLETE
- *   S  SETUP with DLI2         reason, counter, destination, diverting, original
+ *   S  SETUP with DLI2               reason, counter, destination, diverting, original
  *   F  cfnrDivertedLegFailed
+ *   a  activateDiversionQ invoke     reason, identifier, destination, number
+ *   d  deactivateDiversionQ invoke   reason, identifier, number
+ *   i  interrogateDiversionQ invoke  reason, identifier, number
+ *   c  checkRestriction invoke       identifier, number
+ *   r  result of one of these        identifier, destination
+ *   e  error of one of these         identifier
+ *
+ * Small letters belong to no call and have leg 0: a, d, i and c go to the far panel
+ * `number` on a connection of their own, r and e back on the connection on which the
+ * invoke came. `reason` is the type of the forward. Of r only the result to an
+ * interrogation has a destination, that which is kept.
  *
  * More letters may come, perhaps without a leg, of later archives of the same
  * layout. A host that meets one it does not know sends nothing in its place, sends
  * the others, and reports the letter: what it leaves out, the far end waits for. */
 typedef struct whipsail_message {
     uint8_t letter;
-    uint8_t leg;
+    uint8_t leg; /* 0 of the small letters */
     uint8_t reason;
     uint8_t option;
     uint8_t counter; /* this diversion included */
     uint8_t flag;    /* presentation allowed */
     uint16_t identifier;
-    uint16_t destination; /* of S: the party to call */
+    uint16_t destination; /* of S: the party to call; of a and r: where the forward leads */
     uint16_t diverting;   /* of I: the last rerouting number, our own */
     uint16_t original;    /* the original called number, or 0 */
-    uint16_t number;      /* the own number, if allowed */
+    uint16_t number;      /* of D: the own number, if allowed; of a, d, i, c: the far panel */
 } whipsail_message;
 
 /* The answer to one event. The messages are to be sent in their order; those
  * past the last one have the letter WHIPSAIL_NO_MESSAGE. */
 typedef struct whipsail_answer {
     uint8_t code; /* WHIPSAIL_DONE, or why not: then all else is none */
-    uint8_t call;
+    uint8_t call; /* none of kinds 16 to 31, and where T2 to T5 has ended */
     whipsail_message sent[3];
     uint8_t notice;  /* reason told to the caller; one that you do not know: as WHIPSAIL_UNKNOWN */
     uint16_t number; /* shown to the caller */
-    uint32_t identifier; /* of I, R or E, or of the request that a CLOCK has ended */
+    uint32_t identifier; /* of I, R, E or a small letter, or of the request that a CLOCK has ended */
     uint8_t counter;     /* of I or S */
 } whipsail_answer;
 

@@ -15,7 +15,7 @@
  * crates/whipsail_layout, the link name in host/rust/src/raw.rs, and the list in
  * host/compare/layouts (host/README.md). WHIPSAIL_FORMAT is the number of what is
  * kept; it has its own places. */
-#define WHIPSAIL_LAYOUT_NUMBER 2
+#define WHIPSAIL_LAYOUT_NUMBER 3
 
 /* SIZE(struct, bytes), then AT(struct, field, offset) for each field. */
 #define WHIPSAIL_LAYOUT(SIZE, AT)                                                                                      \
@@ -37,8 +37,17 @@
     AT(call, start, 8) AT(call, party, 16) AT(call, history, 18) AT(call, own, 24)                                     \
     AT(call, diverting, 26) AT(call, original, 28) AT(call, identifier, 30) AT(call, reason, 32)                       \
     AT(call, waiting, 34)                                                                                              \
-    SIZE(station, 16)                                                                                                  \
-    AT(station, last, 0) AT(station, next, 8) AT(station, limit, 10)                                                   \
+    SIZE(pending, 16)                                                                                                  \
+    AT(pending, start, 0) AT(pending, identifier, 8) AT(pending, wait, 10)                                             \
+    SIZE(pendings, 64)                                                                                                 \
+    AT(pendings, activation, 0) AT(pendings, deactivation, 16) AT(pendings, interrogation, 32)                         \
+    AT(pendings, check, 48)                                                                                            \
+    SIZE(kept, 6)                                                                                                      \
+    AT(kept, cfu, 0) AT(kept, cfb, 2) AT(kept, cfnr, 4)                                                                \
+    SIZE(remote, 72)                                                                                                   \
+    AT(remote, pending, 0) AT(remote, kept, 64) AT(remote, enabled, 70) AT(remote, allowed, 71)                        \
+    SIZE(station, 88)                                                                                                  \
+    AT(station, last, 0) AT(station, next, 8) AT(station, limit, 10) AT(station, remote, 16)                           \
     SIZE(message, 16)                                                                                                  \
     AT(message, letter, 0) AT(message, leg, 1) AT(message, reason, 2) AT(message, option, 3)                           \
     AT(message, counter, 4) AT(message, flag, 5) AT(message, identifier, 6) AT(message, destination, 8)                \
@@ -46,19 +55,19 @@
     SIZE(answer, 64)                                                                                                   \
     AT(answer, code, 0) AT(answer, call, 1) AT(answer, sent, 2) AT(answer, notice, 50)                                 \
     AT(answer, number, 52) AT(answer, identifier, 56) AT(answer, counter, 60)                                          \
-    SIZE(input, 40)                                                                                                    \
-    AT(input, station, 0) AT(input, event, 16)                                                                         \
-    SIZE(told, 80)                                                                                                     \
+    SIZE(input, 112)                                                                                                   \
+    AT(input, station, 0) AT(input, event, 88)                                                                         \
+    SIZE(told, 152)                                                                                                    \
     AT(told, answer, 0) AT(told, station, 64)                                                                          \
-    SIZE(made, 24)                                                                                                     \
+    SIZE(made, 96)                                                                                                     \
     AT(made, code, 0) AT(made, station, 8)                                                                             \
     SIZE(rehearsed, 6)                                                                                                 \
     AT(rehearsed, code, 0) AT(rehearsed, ending, 1) AT(rehearsed, last, 2) AT(rehearsed, counter, 4)                   \
     SIZE(read, 32)                                                                                                     \
     AT(read, whole, 0) AT(read, event, 8)                                                                              \
-    SIZE(board, 6168)                                                                                                  \
-    AT(board, station, 0) AT(board, len, 16) AT(board, calls, 24)                                                      \
-    SIZE(ran, 6192)                                                                                                    \
+    SIZE(board, 6240)                                                                                                  \
+    AT(board, station, 0) AT(board, len, 88) AT(board, calls, 96)                                                      \
+    SIZE(ran, 6264)                                                                                                    \
     AT(ran, done, 0) AT(ran, refused, 8) AT(ran, cut, 16) AT(ran, board, 24)
 
 #if defined(__cplusplus) && __cplusplus >= 201103L

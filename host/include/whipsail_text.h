@@ -17,18 +17,22 @@ static inline const char *whipsail_refusal_text(unsigned code) {
     case WHIPSAIL_TIME_BEFORE:
         return "the time is before that of the last done event: hand events over in the order of their times";
     case WHIPSAIL_NOT_WELL_MADE:
-        return "a field is outside its range or not used by this kind (a limit: 1 to 15; a plan: 1 to 256 panels, with "
-               "start and destinations among them): correct what makes it";
+        return "a field is outside its range or not used by this kind (a limit: 1 to 15; a mark: 0 or 1; a plan: 1 to "
+               "256 panels, with start and destinations among them): correct what makes it";
     case WHIPSAIL_NO_SUCH_CALL:
         return "no such call: past the table's end, free, or of the other direction; look up which record is meant";
     case WHIPSAIL_NOT_IN_STATE:
-        return "the call's state does not take this event: look at its record, and drop the event";
+        return "the call's state does not take this event, or no request of this sort is pending: look at the record "
+               "or the station, and drop the event";
     case WHIPSAIL_OTHER_IDENTIFIER:
-        return "not the identifier of the call's open request: drop this late or foreign answer";
+        return "not the identifier of the call's open request, or of the pending one of this sort: drop this late or "
+               "foreign answer";
     case WHIPSAIL_OVER_LIMIT:
         return "one diversion more than the limit: do not divert; let the call ring or end it";
     case WHIPSAIL_TABLE_FULL:
         return "no record is free: turn the call down, or lend a longer table (up to 64 records)";
+    case WHIPSAIL_ALREADY_ASKED:
+        return "a request of this sort is pending: wait for its answer, or for the clock event that ends it";
     default:
         return "a refusal of a later archive, not known here: nothing has changed; drop the event, and report the number";
     }
@@ -52,6 +56,22 @@ static inline const char *whipsail_kind_text(unsigned kind) {
     case WHIPSAIL_DLI1: return "divertingLegInformation1 received";
     case WHIPSAIL_RECEIVED: return "message received";
     case WHIPSAIL_FAR_END: return "far end ends the call";
+    case WHIPSAIL_ACTIVATION_REQUEST: return "user asks another panel to forward";
+    case WHIPSAIL_DEACTIVATION_REQUEST: return "user asks another panel to forward no more";
+    case WHIPSAIL_INTERROGATION_REQUEST: return "user asks where another panel forwards to";
+    case WHIPSAIL_CHECK_REQUEST: return "user asks whether another panel may be diverted to";
+    case WHIPSAIL_ACTIVATION_INVOKE: return "activateDiversionQ invoke received";
+    case WHIPSAIL_DEACTIVATION_INVOKE: return "deactivateDiversionQ invoke received";
+    case WHIPSAIL_INTERROGATION_INVOKE: return "interrogateDiversionQ invoke received";
+    case WHIPSAIL_CHECK_INVOKE: return "checkRestriction invoke received";
+    case WHIPSAIL_ACTIVATION_RESULT: return "activateDiversionQ result received";
+    case WHIPSAIL_DEACTIVATION_RESULT: return "deactivateDiversionQ result received";
+    case WHIPSAIL_INTERROGATION_RESULT: return "interrogateDiversionQ result received";
+    case WHIPSAIL_CHECK_RESULT: return "checkRestriction result received";
+    case WHIPSAIL_ACTIVATION_ERROR: return "activateDiversionQ error or reject received";
+    case WHIPSAIL_DEACTIVATION_ERROR: return "deactivateDiversionQ error or reject received";
+    case WHIPSAIL_INTERROGATION_ERROR: return "interrogateDiversionQ error or reject received";
+    case WHIPSAIL_CHECK_ERROR: return "checkRestriction error or reject received";
     default: return "an event not known here";
     }
 }
@@ -69,6 +89,12 @@ static inline const char *whipsail_letter_text(unsigned letter) {
     case 'X': return "RELEASE COMPLETE";
     case 'S': return "SETUP with divertingLegInformation2";
     case 'F': return "cfnrDivertedLegFailed";
+    case 'a': return "activateDiversionQ invoke";
+    case 'd': return "deactivateDiversionQ invoke";
+    case 'i': return "interrogateDiversionQ invoke";
+    case 'c': return "checkRestriction invoke";
+    case 'r': return "result to another panel";
+    case 'e': return "error to another panel";
     default: return "a message of a later archive, not known here";
     }
 }

@@ -9,7 +9,8 @@ use model::lent::{self, Case};
 use model::profile;
 use model::random::Random;
 use model::record::FIELDS;
-use model::{guided, panel, vectors, Event, Record, Station};
+use model::remote::Pending;
+use model::{guided, panel, station, vectors, Event, Record, Station};
 use plain::answer::Answer;
 use plain::call::Call;
 
@@ -99,8 +100,35 @@ fn every_field(random: &mut Random) {
     }
 }
 
-/// Each bit of each record of a table in use turned over.
+/// Each bit of the station and of each record of a table in use turned over; of the
+/// station also with a request of each sort.
 fn every_bit(work: &Workload) {
+    let mut waits = work.start;
+    for (sort, pending) in waits.remote.pending.iter_mut().enumerate() {
+        // behind those of the table
+        let identifier = 1_000 + sort as u16;
+        let start = work.start.last_time;
+        let wait = WAIT;
+        *pending = Pending {
+            wait,
+            identifier,
+            start,
+        };
+    }
+    let bits = station::FIELDS.into_iter().enumerate();
+    for (field, bit) in bits.flat_map(|(field, (_, width))| (0..width).map(move |bit| (field, bit)))
+    {
+        for start in [work.start, waits] {
+            let mut values = start.values();
+            values[field] ^= 1 << bit;
+            same(&Case {
+                table: work.records.clone(),
+                station: Station::from_values(&values),
+                event: work.first,
+            });
+        }
+    }
+
     let bits = FIELDS.into_iter().enumerate();
     for (field, bit) in bits.flat_map(|(field, (_, width))| (0..width).map(move |bit| (field, bit)))
     {
@@ -139,6 +167,24 @@ fn one_mark() {
     };
     same(&case);
     assert!(by_model(&case).0.code == 0);
+    // 68 in all, those of the station on the same mark
+    let mut full = case.clone();
+    for (sort, pending) in full.station.remote.pending.iter_mut().enumerate() {
+        pending.wait = WAIT;
+        pending.identifier = 2 + 1024 * sort as u16;
+    }
+    same(&full);
+    assert!(by_model(&full).0.code == 0);
+    for sort in 0..SORTS {
+        let mut shared = full.clone();
+        shared.station.remote.pending[sort].identifier = case.table[63].identifier;
+        same(&shared);
+        assert!(by_model(&shared).0.code == 1);
+        shared.station = full.station;
+        shared.station.remote.pending[sort].identifier = 2 + 1024 * (sort as u16 ^ 1);
+        same(&shared);
+        assert!(by_model(&shared).0.code == 1);
+    }
     case.table[63].identifier = case.table[0].identifier;
     same(&case);
 }

@@ -4,6 +4,7 @@
 use plain::answer::{Answer, Message};
 use plain::call::{Call, Dli1, Unused};
 use plain::event::Event;
+use plain::remote::{Pending, Remote};
 use plain::station::Station;
 
 pub fn call(r: &model::Record) -> Call {
@@ -54,6 +55,23 @@ pub fn station(s: &model::Station) -> Station {
         last: s.last_time,
         next: s.next_identifier,
         limit: s.limit,
+        remote: remote(&s.remote),
+    }
+}
+
+fn remote(r: &model::remote::Remote) -> Remote {
+    let pending = |p: &model::remote::Pending| Pending {
+        start: p.start,
+        identifier: p.identifier,
+        wait: p.wait,
+        // anything may stand there
+        unused: [Unused(0xa5); 5],
+    };
+    Remote {
+        pending: r.pending.each_ref().map(pending),
+        kept: r.kept,
+        enabled: r.enabled,
+        allowed: r.allowed,
     }
 }
 
@@ -73,7 +91,7 @@ fn message(m: &model::Message) -> Message {
         destination: m.destination,
         diverting: m.diverting,
         original: m.original,
-        number: m.own,
+        number: m.number,
     }
 }
 

@@ -35,9 +35,10 @@ struct Ran {
     board: Board,
 }
 
-const _: () = assert!(size_of::<Input>() == 40 && size_of::<Told>() == 80);
-const _: () = assert!(size_of::<Board>() == 6168 && size_of::<Ran>() == 6192);
+const _: () = assert!(size_of::<Input>() == 112 && size_of::<Told>() == 152);
+const _: () = assert!(size_of::<Board>() == 6240 && size_of::<Ran>() == 6264);
 const _: () = assert!(size_of::<Call>() == size_of::<whipsail::Call>());
+const _: () = assert!(size_of::<Station>() == size_of::<whipsail::Station>());
 
 extern "C" {
     fn whipsail_lent_step(table: *mut Call, len: usize, input: Input) -> Told;

@@ -179,6 +179,58 @@ impl Words {
         self.only(CALL | up_to(3, REASON | OPTION)) && self.option_fits() && self.one_number(SECOND)
     }
 
+    /// Kinds 16, and with an identifier 20.
+    #[inline]
+    fn activation(self, identifier: u64) -> bool {
+        self.typed()
+            && self.numbers & !(identifier | FIRST | SECOND) == 0
+            && self.numbers & FIRST != 0
+            && self.numbers & SECOND != 0
+    }
+
+    /// A type of forward, and no other code.
+    #[inline]
+    fn typed(self) -> bool {
+        self.only(up_to(3, REASON)) && self.has(REASON)
+    }
+
+    /// Of the numbers this one, perhaps an identifier, and no other.
+    #[inline]
+    fn one_number_with(self, identifier: u64, field: u64) -> bool {
+        self.numbers & !(identifier | field) == 0 && self.numbers & field != 0
+    }
+
+    /// Kinds 16 to 19, and with an identifier 20 to 23.
+    #[inline]
+    fn panel(self, identifier: u64) -> bool {
+        match self.codes & 3 {
+            0 => self.activation(identifier),
+            3 => self.only(0) && self.one_number_with(identifier, FIRST),
+            _ => self.typed() && self.one_number_with(identifier, FIRST),
+        }
+    }
+
+    /// Kinds 16 to 19.
+    #[inline]
+    pub fn ask(self) -> bool {
+        self.panel(0)
+    }
+
+    /// Kinds 20 to 23.
+    #[inline]
+    pub fn asked(self) -> bool {
+        self.panel(IDENTIFIER)
+    }
+
+    /// Kinds 24 to 31.
+    #[inline]
+    pub fn settled(self) -> bool {
+        match self.codes & KIND {
+            26 => self.only(0) && self.one_number_with(IDENTIFIER, SECOND),
+            _ => self.only(0) && self.numbers & !IDENTIFIER == 0,
+        }
+    }
+
     /// Kind 14.
     #[inline]
     pub fn message(self) -> bool {

@@ -67,8 +67,12 @@ pub fn write(out: &mut [u8], position: u64, a: &Answer) -> usize {
     for message in &a.sent {
         if message.letter != 0 {
             out[at] = message.letter;
-            out[at + 1] = b'0' + message.leg;
-            at += 2;
+            at += 1;
+            // small letters have none
+            if message.leg != 0 {
+                out[at] = b'0' + message.leg;
+                at += 1;
+            }
         }
     }
     out[at] = b'\n';

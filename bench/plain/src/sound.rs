@@ -5,10 +5,24 @@ use crate::station::Station;
 
 /// Whether the table may be worked on. A done event keeps it so.
 pub fn sound(table: &[Call], station: &Station) -> bool {
-    if !(1..=64).contains(&table.len()) || !(1..=15).contains(&station.limit) || station.next == 0 {
+    if !(1..=64).contains(&table.len())
+        || !(1..=15).contains(&station.limit)
+        || station.next == 0
+        || !station.remote.marks_hold()
+    {
         return false;
     }
     let mut marks = Marks([0; 16]);
+    if station.remote.any() {
+        if !station.remote.pendings_hold(station.last) {
+            return false;
+        }
+        for identifier in station.remote.identifiers() {
+            if identifier != 0 {
+                marks.set(identifier);
+            }
+        }
+    }
     for (i, call) in table.iter().enumerate() {
         if !call.sound(station.last) {
             return false;
@@ -17,7 +31,8 @@ pub fn sound(table: &[Call], station: &Station) -> bool {
         let identifier = call.identifier;
         if identifier != 0
             && marks.set(identifier)
-            && table[..i].iter().any(|c| c.identifier == identifier)
+            && (station.remote.identifiers().contains(&identifier)
+                || table[..i].iter().any(|c| c.identifier == identifier))
         {
             return false;
         }

@@ -3,6 +3,7 @@
 use crate::answer::{bare, Answer, Message};
 use crate::call::*;
 use crate::event::{Event, Words};
+use crate::remote::Remote;
 
 #[derive(Clone, Copy, Debug, PartialEq)]
 #[repr(C)]
@@ -10,6 +11,7 @@ pub struct Station {
     pub last: u64,
     pub next: u16,
     pub limit: u8,
+    pub remote: Remote,
 }
 
 impl Station {
@@ -18,6 +20,7 @@ impl Station {
             last: 0,
             next: u16::MAX,
             limit: 15,
+            remote: Remote::fresh(),
         }
     }
 
@@ -37,12 +40,15 @@ impl Station {
             7 if w.outcome() => on(table, e, INCOMING, |c| c.granted_by(e)),
             8 if w.outcome() => on(table, e, INCOMING, |c| c.turned_down_by(e)),
             9 if w.call_only() => on(table, e, INCOMING, |c| c.leg_failed(e)),
-            10 if w.clock() => clock(table, e.time),
+            10 if w.clock() => self.clock(table, e.time),
             11 if w.call_only() => ended(table, e),
             12 if w.reroute() => on(table, e, OUTGOING, |c| c.rerouted(e)),
             13 if w.inform() => on(table, e, OUTGOING, |c| c.informed(e)),
             14 if w.message() => on(table, e, OUTGOING, |c| c.message(e)),
             15 if w.call_only() => on(table, e, INCOMING, |c| c.left(e)),
+            16..=19 if w.ask() => self.ask(table, e),
+            20..=23 if w.asked() => self.remote.asked(e),
+            24..=31 if w.settled() => self.remote.settled(e),
             _ => Answer::refused(3),
         };
         if answer.code == 0 {
@@ -75,13 +81,33 @@ impl Station {
     /// The first identifier from the next one on that no open request has. No
     /// other record has one.
     #[inline(always)]
-    fn draw(&mut self, table: &[Call]) -> u16 {
+    pub fn draw(&mut self, table: &[Call]) -> u16 {
+        let far = self.remote.identifiers();
         let mut identifier = self.next;
-        while table.iter().any(|c| c.identifier == identifier) {
+        while table.iter().any(|c| c.identifier == identifier) || far.contains(&identifier) {
             identifier = after(identifier);
         }
         self.next = after(identifier);
         identifier
+    }
+
+    #[inline(always)]
+    fn clock(&mut self, table: &mut [Call], time: u64) -> Answer {
+        // T1 is the shortest
+        let Some(latest) = time.checked_sub(T1) else {
+            return Answer::refused(0);
+        };
+        let due = |c: &Call| c.cds == 1 && c.start <= latest;
+        let Some(i) = table.iter().position(due) else {
+            return self.remote.clock(time);
+        };
+        let c = &mut table[i];
+        let identifier = u32::from(c.identifier);
+        c.end_request();
+        Answer {
+            identifier,
+            ..Answer::done(i as u8)
+        }
     }
 }
 
@@ -144,24 +170,6 @@ fn open(table: &mut [Call], call: Call) -> Answer {
     };
     table[i] = call;
     Answer::done(i as u8)
-}
-
-#[inline(always)]
-fn clock(table: &mut [Call], time: u64) -> Answer {
-    let Some(latest) = time.checked_sub(T1) else {
-        return Answer::refused(0);
-    };
-    let due = |c: &Call| c.cds == 1 && c.start <= latest;
-    let Some(i) = table.iter().position(due) else {
-        return Answer::refused(0);
-    };
-    let c = &mut table[i];
-    let identifier = u32::from(c.identifier);
-    c.end_request();
-    Answer {
-        identifier,
-        ..Answer::done(i as u8)
-    }
 }
 
 impl Call {

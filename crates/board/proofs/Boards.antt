@@ -17,9 +17,10 @@ use Rattle.identifier.specs.Identifier.{distinct}
 use Rattle.call.specs.declared.Call.{Call}
 use Rattle.call.specs.declared.Effect.{Effect}
 use Rattle.call.specs.Soundness.{soundCall}
+use Rattle.station.specs.declared.Answer.{Answer}
 use Rattle.station.specs.declared.Station.{Station}
 use Rattle.station.specs.Station.{emptyAnswer, stationOk}
-use Rattle.station.specs.Table.{requestsOf, sound}
+use Rattle.station.specs.Table.{openIdentifiers, sound}
 use Rattle.station.specs.Step.{refused, answerOf}
 use Rattle.sound.specs.Bounds.{inBounds}
 use Rattle.board.specs.declared.Board.{Board}
@@ -29,9 +30,9 @@ use Rattle.board.specs.Board.{Stepped, tableOf, putBack, soundBoard, wit
 abbrev pub refusedBoard : Board → ℕ → Stepped
 refusedBoard b code = record { answer = emptyAnswer code; board = b }
 
--- a clock event with none due
-abbrev pub noneDueBoard : Board → Station → Stepped
-noneDueBoard b s = record { answer = emptyAnswer 0; board = record { station = s; len = b .len; calls = b .calls } }
+-- done on no record
+abbrev pub farBoard : Board → Answer → Station → Stepped
+farBoard b a s = record { answer = a; board = record { station = s; len = b .len; calls = b .calls } }
 
 -- done: the record at a place is replaced by its effect
 abbrev pub doneBoard : Board → Station → ℕ → Effect → Stepped
@@ -40,32 +41,32 @@ doneBoard b s i x = record { answer = answerOf i x; board = record { station = s
 pub table-long : (n : ℕ) (calls : List Call) → n ≤ 64 → length calls ≡ 64 → length (take n calls) ≡ n
 table-long n calls h e = omega (arith, length-take n calls)
 
-pub short : (len : ℕ) (s : Station) (t : Bool) → t ≡ inBounds len (s .limit) (s .next) → t ≡ true → len ≤ 64
+pub short : (len : ℕ) (s : Station) (t : Bool) → t ≡ inBounds len s → t ≡ true → len ≤ 64
 short len s t q z =
     let w = both (leb 1 len && leb len 64) (stationOk s) (sym q ∙ z) in
     leb-true len 64 (both (leb 1 len) (leb len 64) (w .0) .1)
 
 -- what the test of a table asks of its records
-abbrev pub soundRecords : ℕ → List Call → Bool
-soundRecords last calls = all (soundCall last) calls && distinct (requestsOf calls)
+abbrev pub soundRecords : Station → List Call → Bool
+soundRecords s calls = all (soundCall (s .last)) calls && distinct (openIdentifiers s calls)
 
 pub sound-parts : (s : Station) (calls : List Call) (len : ℕ) → len ≤ 64 → length calls ≡ 64
-    → sound s (take len calls) ≡ inBounds len (s .limit) (s .next) && soundRecords (s .last) (take len calls)
+    → sound s (take len calls) ≡ inBounds len s && soundRecords s (take len calls)
 unfolding sound
-sound-parts s calls len h e = rw (table-long len calls h e) (regroup (leb 1 len && leb len 64) (stationOk s) (soundRecords (s .last) (take len calls)))
+sound-parts s calls len h e = rw (table-long len calls h e) (regroup (leb 1 len && leb len 64) (stationOk s) (soundRecords s (take len calls)))
   where
     regroup : (a b c : Bool) → a && b && c ≡ (a && b) && c
     regroup true b c = refl
     regroup false b c = refl
 
 -- the test behind number 1, in the order of the code
-pub board-tested : (b : Board) (t r : Bool) → length (b .calls) ≡ 64 → t ≡ inBounds (b .len) (b .station .limit) (b .station .next) → t ≡ true
-    → r ≡ soundRecords (b .station .last) (tableOf b) → r ≡ soundBoard b
+pub board-tested : (b : Board) (t r : Bool) → length (b .calls) ≡ 64 → t ≡ inBounds (b .len) (b .station) → t ≡ true
+    → r ≡ soundRecords (b .station) (tableOf b) → r ≡ soundBoard b
 board-tested b t r e q z p =
     let h = short (b .len) (b .station) t q z in
     sym (rw (le-ltb 64 (b .len) h) (sound-parts (b .station) (b .calls) (b .len) h e ∙ rw (← q, z, ← p)))
 
-pub board-unfit : (b : Board) (t : Bool) → length (b .calls) ≡ 64 → t ≡ inBounds (b .len) (b .station .limit) (b .station .next) → t ≡ false → false ≡ soundBoard b
+pub board-unfit : (b : Board) (t : Bool) → length (b .calls) ≡ 64 → t ≡ inBounds (b .len) (b .station) → t ≡ false → false ≡ soundBoard b
 board-unfit b t e q z =
     by-cases (ltb 64 (b .len)) (λ l. rw l) (λ l.
     sym (rw l (sound-parts (b .station) (b .calls) (b .len) (ltb-false 64 (b .len) l) e ∙ rw (← q, z))))
@@ -81,8 +82,8 @@ set-beginning (suc n) (y ∷ ys) (suc i) x h = ap (λ r. y ∷ r) (set-beginning
 pub back-refused : (b : Board) (code : ℕ) → putBack b (refused (b .station) (tableOf b) code) ≡ refusedBoard b code
 back-refused b code = rw (take-append-drop (b .len) (b .calls))
 
-pub back-none : (b : Board) (s : Station) → putBack b (record { answer = emptyAnswer 0; station = s; calls = tableOf b }) ≡ noneDueBoard b s
-back-none b s = rw (take-append-drop (b .len) (b .calls))
+pub back-far : (b : Board) (a : Answer) (s : Station) → putBack b (record { answer = a; station = s; calls = tableOf b }) ≡ farBoard b a s
+back-far b a s = rw (take-append-drop (b .len) (b .calls))
 
 pub back-done : (b : Board) (s : Station) (i : ℕ) (x : Effect) → i < b .len
     → putBack b (record { answer = answerOf i x; station = s; calls = set (tableOf b) i (x .call) }) ≡ doneBoard b s i x

@@ -12,13 +12,17 @@ use Rattle.identifier.specs.Identifier.{drawn}
 use Rattle.call.specs.declared.Call.{Call}
 use Rattle.call.specs.Record.{isFree, freeCall}
 use Rattle.call.specs.Incoming.{due}
+use Rattle.timed.specs.Timed.{identifiersOf}
+use Rattle.remote.specs.declared.Pendings.{Pendings}
+use Rattle.remote.specs.Held.{timersOf}
 use Rattle.station.specs.Table.{requestsOf, at}
 use Rattle.notes.specs.declared.Notes.{Notes}
 use Rattle.notes.specs.Mask.{over}
-use Rattle.notes.specs.Notes.{Kept, frees, under, never, firstFreeIn}
+use Rattle.notes.specs.Notes.{Kept, frees, under, never, joinedOf, firstFreeIn}
 use Rattle.notes.proofs.Mask.{over-length}
 use Rattle.board.proofs.Boards.{table-long}
-use Rattle.notes.proofs.Held.{free-first, due-first, held-free, requests-over, first-beginning, first-past-end}
+use Rattle.notes.proofs.Four.{joined-free}
+use Rattle.notes.proofs.Held.{free-first, due-first, requests-over, first-beginning, first-past-end}
 
 module _ (n : ℕ) (l : List Call) (h : n ≤ 64) (e : length l ≡ 64) where
   -- a first place in the array is one in the table, or there is none
@@ -50,5 +54,5 @@ module _ (n : ℕ) (l : List Call) (h : n ≤ 64) (e : length l ≡ 64) where
     pub none-due : (time i : ℕ) → time ≤ never → i ≡ first (under time) (d .dues) → n ≤ i → length (take n l) ≤ first (due time) (take n l)
     none-due time i t q k = table-none (due time) i (lowest-due time i t q) k
 
-    pub found-identifier : (next : ℕ) → firstFreeIn 65 (d .held) next ≡ drawn (requestsOf (take n l)) next
-    found-identifier next = rw (w .idents) (held-free 65 (over n l frees) next ∙ rw (requests-over n l))
+    pub found-identifier : (p : Pendings) (next : ℕ) → firstFreeIn 69 (joinedOf (d .held) p) next ≡ drawn (requestsOf (take n l) ++ identifiersOf (timersOf p)) next
+    found-identifier p next = rw (w .idents) (joined-free 69 (over n l frees) p next ∙ rw (requests-over n l))

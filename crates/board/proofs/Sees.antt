@@ -63,11 +63,11 @@ module _ (n : ℕ) (l : List Call) (h : n ≤ 64) (long : length l ≡ 64) (d : 
   place-agrees = by-kind (opens e) (clock e) lowest past (e .call) (first isFree (take n l)) (first (due (e .time)) (take n l)) free-agrees due-agrees
 
   pub sees-notes : (s : Station) (v : Seen) → v .len ≡ n → v .place ≡ placeOf e lowest past → (v .place < n → v .call ≡ getD l (v .place) freeCall)
-      → v .identifier ≡ identifierIn e (d .held) (s .next) → Sees s (take n l) e v
+      → v .identifier ≡ identifierIn e (d .held) (s .remote .pending) (s .next) → Sees s (take n l) e v
   sees-notes s v q p c i = record {
     size = q ∙ sym size-is;
     near = λ k. p ∙ place-agrees .0 (omega (arith, k, size-is));
     far = λ k. let m = place-agrees .1 (omega (arith, k, size-is)) in omega (arith, m, p, size-is);
     there = λ k. let m : v .place < n = omega (arith, k, size-is) in c m ∙ sym (table-at n l h long (v .place) m);
-    drawn = λ f. i ∙ rw f (found-identifier n l h long d w (s .next));
+    drawn = λ f. i ∙ rw f (found-identifier n l h long d w (s .remote .pending) (s .next));
   }

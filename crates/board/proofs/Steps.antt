@@ -13,27 +13,28 @@ use Rattle.ground.proofs.Walks.{both}
 use Rattle.event.specs.declared.Event.{Event}
 use Rattle.call.specs.declared.Effect.{Effect}
 use Rattle.call.specs.Record.{freeCall}
+use Rattle.remote.specs.declared.Moved.{Moved}
 use Rattle.station.specs.Table.{sound}
 use Rattle.station.specs.Refusals.{refusal}
-use Rattle.station.specs.Step.{answerOf, byNumber, step, stepOnSound}
+use Rattle.station.specs.Step.{answerOf, farAnswer, byNumber, step, stepOnSound}
 use Rattle.notes.specs.declared.Notes.{Notes}
 use Rattle.notes.specs.Notes.{under, never, identifierIn}
 use Rattle.turn.specs.declared.Seen.{Seen}
 use Rattle.turn.specs.declared.Turn.{Turn}
-use Rattle.turn.specs.declared.Turn.the-variants.{Refused, NoneDue, Done}
-use Rattle.turn.specs.Turn.{placeOf, turnOf, actedOf, doable, stationOn, outcomeOf, Sees}
+use Rattle.turn.specs.declared.Turn.the-variants.{Refused, Far, Done}
+use Rattle.turn.specs.Turn.{placeOf, turnOf, actedOf, movedOf, doable, stationOn, stationFar, outcomeOf, Sees}
 use Rattle.turn.proofs.Turns.{refused-number, done-there, done-doable}
 use Rattle.turn.proofs.Laws.{turn-steps}
 use Rattle.board.specs.declared.Board.{Board}
 use Rattle.board.specs.Board.{tableOf, putBack, soundBoard, stepBoard, stepSoundBoard}
-use Rattle.board.proofs.Boards.{refusedBoard, noneDueBoard, doneBoard, back-refused, back-none, back-done}
+use Rattle.board.proofs.Boards.{refusedBoard, farBoard, doneBoard, back-refused, back-far, back-done}
 use Rattle.board.proofs.Sees.{sees-notes}
 use Rattle.board.proofs.Beside.{Beside}
 
 -- what a run sees of its table, and the turn that is decided on it
 module _ (b : Board) (d : Notes) (e : Event) (h : b .len ≤ 64) (w : Beside (b .len) (b .calls) d) (o : e .time ≤ never) (v : Seen) (size : v .len ≡ b .len)
     (place : v .place ≡ placeOf e (trailingZeros 64 (d .free)) (first (under (e .time)) (d .dues))) (there : v .place < b .len → v .call ≡ getD (b .calls) (v .place) freeCall)
-    (drawn : v .identifier ≡ identifierIn e (d .held) (b .station .next)) (t : Turn) (r : t ≡ turnOf (b .station) e v) where
+    (drawn : v .identifier ≡ identifierIn e (d .held) (b .station .remote .pending) (b .station .next)) (t : Turn) (r : t ≡ turnOf (b .station) e v) where
   steps : putBack b (outcomeOf (b .station) (tableOf b) e v t) ≡ stepSoundBoard b e
   steps =
       ap (putBack b)
@@ -44,8 +45,11 @@ module _ (b : Board) (d : Notes) (e : Event) (h : b .len ≤ 64) (w : Beside (b 
   turn-refused code q =
       (refused-number (b .station) e v code (sym r ∙ q), sym (back-refused b code) ∙ ap (λ x. putBack b (outcomeOf (b .station) (tableOf b) e v x)) (sym q) ∙ steps)
 
-  pub turn-none : t ≡ NoneDue → noneDueBoard b (stationOn (b .station) e (v .identifier)) ≡ stepSoundBoard b e
-  turn-none q = sym (back-none b (stationOn (b .station) e (v .identifier))) ∙ ap (λ x. putBack b (outcomeOf (b .station) (tableOf b) e v x)) (sym q) ∙ steps
+  pub turn-far : (m : Moved) → t ≡ Far → m ≡ movedOf (b .station) e v → farBoard b (farAnswer m) (stationFar (b .station) e (v .identifier) (m .remote)) ≡ stepSoundBoard b e
+  turn-far m q a =
+      sym (back-far b (farAnswer m) (stationFar (b .station) e (v .identifier) (m .remote)))
+      ∙ ap (λ y. putBack b (record { answer = farAnswer y; station = stationFar (b .station) e (v .identifier) (y .remote); calls = tableOf b })) a
+      ∙ ap (λ x. putBack b (outcomeOf (b .station) (tableOf b) e v x)) (sym q) ∙ steps
 
   pub turn-there : t ≡ Done → v .place < b .len
   turn-there q = let l = done-there (b .station) e v (sym r ∙ q) in omega (arith, l, size)

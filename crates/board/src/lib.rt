@@ -26,11 +26,9 @@ pub fn sound_board(b: Board) -> bool
 {
     let len = b.len;
     let calls = b.calls;
-    let last = b.station.last;
-    let limit = b.station.limit;
-    let next = b.station.next;
-    if sound::in_bounds(len, limit, next) {
-        return table::sound_table(calls, len, last);
+    let s = b.station;
+    if sound::in_bounds(len, s) {
+        return table::sound_table(calls, len, s.last, s.remote.pending);
     }
     false
 }

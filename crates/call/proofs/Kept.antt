@@ -7,7 +7,7 @@ use lib.Dec.{T, eqb, leb, leb→le, le→leb, T-not, not-T}
 use Rattle.ground.proofs.Bools.{and-l, and-r, and-i, nor-l, nor-r, not-not, when-has, trivial}
 use Rattle.event.specs.declared.Event.{Event}
 use Rattle.event.specs.Kinds.{ofIncoming, ofOutgoing, diverts, ends, facility, releaseComplete, onLeg2}
-use Rattle.event.specs.WellMade.{wellMade}
+use Rattle.event.specs.WellMade.{callMade}
 use Rattle.call.specs.declared.Call.{Call}
 use Rattle.call.specs.declared.Effect.{Effect}
 use Rattle.call.specs.Record.{isFree, isOutgoing, isIncoming, proceeding, active, requested, granted, divert, invoked, fits, freeCall}
@@ -153,11 +153,11 @@ module _ (identifier : ℕ) (c : Call) (e : Event) (h : T (soundCall (e .time) c
   left (farEnds k f) = rw k left-free
 
 -- "Each done event leaves a sound table": the record that the event acts on
-pub act-kept : (last identifier : ℕ) (c : Call) (e : Event) → T (not (eqb identifier 0)) → T (soundCall last c) → last ≤ e .time → T (wellMade e)
+pub act-kept : (last identifier : ℕ) (c : Call) (e : Event) → T (not (eqb identifier 0)) → T (soundCall last c) → last ≤ e .time → T (callMade e)
     → T (addressed c e) → T (not (stateForbids c e)) → T (soundCall (e .time) (act c e identifier .call))
 act-kept last identifier c e z h l f a n = left identifier c e (sound-later last (e .time) c l h) a n (made e f) .sound z
 
 -- after an event a record is Requested only if the event is a divert, and then with the identifier that was drawn
-pub act-request : (last identifier : ℕ) (c : Call) (e : Event) → T (soundCall last c) → last ≤ e .time → T (wellMade e) → T (addressed c e)
+pub act-request : (last identifier : ℕ) (c : Call) (e : Event) → T (soundCall last c) → last ≤ e .time → T (callMade e) → T (addressed c e)
     → T (not (stateForbids c e)) → T (requested (act c e identifier .call)) → T (diverts e) × (act c e identifier .call .identifier ≡ identifier)
 act-request last identifier c e h l f a n = left identifier c e (sound-later last (e .time) c l h) a n (made e f) .request

@@ -14,7 +14,7 @@ use Rattle.call.specs.declared.Call.{Call}
 use Rattle.call.specs.declared.Effect.{Effect}
 use Rattle.call.specs.Record.{proceeding, active, requested, granted, wait, undiverted, fits}
 use Rattle.call.specs.Fields.{basic-is, cdf-is}
-use Rattle.call.specs.Soundness.{only}
+use Rattle.ground.specs.Choice.{only}
 use Rattle.call.specs.State.{leaving}
 use Rattle.call.specs.Incoming.{openedIncoming, alerted, idle, answered, diverted, grant}
 use Rattle.call.proofs.Denials.{denied-l, never}

@@ -5,7 +5,7 @@ use mathlib.Core.Path.{_≡_}
 use mathlib.Core.Bool.{Bool, true, false, not, _&&_}
 use mathlib.Core.List.{List, [], _∷_}
 use lib.Dec.{T, leb, eqb, eqb→eq, leb→le, le→leb, T-not}
-use Rattle.ground.specs.Choice.{when_then_else_}
+use Rattle.ground.specs.Choice.{when_then_else_, exactly}
 use Rattle.ground.specs.Lists.{all}
 use Rattle.ground.proofs.Bools.{and-l, and-r, and-i, or-inl, nor-l, nor-r, is-true, is-false, by-cases, when-has, trivial}
 use Rattle.event.specs.declared.Event.{Event}
@@ -21,7 +21,7 @@ use Rattle.call.specs.declared.Call.{Call}
 use Rattle.call.specs.declared.Effect.{Effect}
 use Rattle.call.specs.Record.{active, delivered, divert, invoked, forwardedParty}
 use Rattle.call.specs.Fields.{basic-is, cdo-is, cdr-is, party-is, waiting-is, history-is}
-use Rattle.call.specs.Soundness.{exactly, waitingHolds, historyHolds}
+use Rattle.call.specs.Soundness.{waitingHolds, historyHolds}
 use Rattle.call.specs.Outgoing.{openedOutgoing, dli1Of, toCdo, cdrIdle, movedOver, withDli3, afterMessage, goesOn, turnsDown, rerouted, informed, takenOver, onFirstLeg, leg2Remains}
 use Rattle.call.proofs.Denials.{denied, never}
 use Rattle.call.proofs.Sound.{Outgoing}

@@ -11,5 +11,6 @@ pub mod Heard
 pub mod Told
 pub mod Recalled
 pub mod Waits
+pub mod Timed
 pub mod Identifiers
 pub mod Read

@@ -7,7 +7,7 @@ use borrow.Author.Tests.{eqb-true}
 use Rattle.ground.proofs.Bools.{by-cases}
 use Rattle.ground.proofs.Walks.{or-false}
 use Rattle.event.specs.declared.Event.{Event}
-use Rattle.event.specs.WellMade.{openFields, openDivertedFields, callOnly, answerFields, divertFields, outcomeFields, clockFields, reroutingFields, dli1Fields, messageFields, wellMade}
+use Rattle.event.specs.WellMade.{openFields, openDivertedFields, callOnly, answerFields, divertFields, outcomeFields, clockFields, reroutingFields, dli1Fields, messageFields, callMade}
 
 pub data Made (e : Event) : Type 0 where
   opensOutgoing : e .kind ≡ 1 → T (openFields e) → Made e
@@ -30,8 +30,8 @@ pub data Made (e : Event) : Type 0 where
 kind-is : (e : Event) (n : ℕ) {P : Type 0} → (e .kind ≡ n → P) → (eqb (e .kind) n ≡ false → P) → P
 kind-is e n p q = by-cases (eqb (e .kind) n) (λ t. p (eqb-true (e .kind) n t)) q
 
-pub made : (e : Event) → T (wellMade e) → Made e
-unfolding wellMade
+pub made : (e : Event) → T (callMade e) → Made e
+unfolding callMade
 made e h =
     kind-is e 1 (λ k. opensOutgoing k (simp (k, or-false) at h)) (λ n1.
     kind-is e 2 (λ k. opensIncoming k (simp (k, or-false) at h)) (λ n2.

@@ -8,10 +8,11 @@ use lib.Dec.{T, leb, eqb, eqb→eq, leb→le, T-not, not-T}
 use Rattle.ground.proofs.Bools.{and-l, and-r, and-i, nor-l, nor-r, not-not}
 use Rattle.event.specs.declared.Event.{Event}
 use Rattle.event.specs.Kinds.{opens, diverts, answersRequest, clock, ends}
-use Rattle.event.specs.WellMade.{wellMade}
+use Rattle.event.specs.WellMade.{callMade}
 use Rattle.call.specs.declared.Call.{Call}
 use Rattle.call.specs.Record.{isFree, isOutgoing, requested, granted}
-use Rattle.call.specs.Soundness.{only, soundCall}
+use Rattle.ground.specs.Choice.{only}
+use Rattle.call.specs.Soundness.{soundCall}
 use Rattle.call.specs.State.{grantedCfnr, stateForbids}
 use Rattle.call.specs.Act.{act}
 use Rattle.call.proofs.Sound.{Incoming, requested-incoming}
@@ -61,12 +62,12 @@ module _ (last : ℕ) (c : Call) (e : Event) (h : T (soundCall last c)) (r : T (
   ending (farEnds k f) = rw k tt
 
 -- of the events, only these act on a record that is Requested; an open acts on a free one
-pub request-ends : (last : ℕ) (c : Call) (e : Event) → T (soundCall last c) → T (requested c) → T (wellMade e) → T (only (opens e) (isFree c)) → T (addressed c e)
+pub request-ends : (last : ℕ) (c : Call) (e : Event) → T (soundCall last c) → T (requested c) → T (callMade e) → T (only (opens e) (isFree c)) → T (addressed c e)
     → T (not (stateForbids c e)) → T (endsRequest e)
 request-ends last c e h r f o a n = ending last c e h r o a n (made e f)
 
 -- and each of them ends the request
-pub request-ended : (last identifier : ℕ) (c : Call) (e : Event) → T (soundCall last c) → last ≤ e .time → T (requested c) → T (wellMade e) → T (addressed c e)
+pub request-ended : (last identifier : ℕ) (c : Call) (e : Event) → T (soundCall last c) → last ≤ e .time → T (requested c) → T (callMade e) → T (addressed c e)
     → T (not (stateForbids c e)) → T (not (requested (act c e identifier .call)))
 request-ended last identifier c e h l r f a n = not-T (requested (act c e identifier .call))
     (λ q. T-not (requested c) (divert-idle c e (act-request last identifier c e h l f a n q .0) n) r)

@@ -13,7 +13,7 @@ use Rattle.ground.proofs.Walks.{and-false}
 use Rattle.event.specs.declared.Event.{Event}
 use Rattle.event.specs.Kinds.{cfnr, allowed, forbidden, alerting, connect, releaseComplete, onLeg2, opens, ofIncoming, ofOutgoing, clock}
 use Rattle.event.specs.Fields.{option-is, flag-is}
-use Rattle.event.specs.WellMade.{wellMade}
+use Rattle.event.specs.WellMade.{callMade}
 use Rattle.notice.specs.Notice.{noNotice, noNumber, noHistory}
 use Rattle.notice.specs.Stricter.{ShownOnlyWhere, agreed, StricterDli1, lowered, StricterFlag, kept, forbade, StricterHistory}
 use Rattle.notice.proofs.Stricter.{dli1-stricter, notice-stricter, number-stricter, dli3-stricter, history-stricter}
@@ -218,8 +218,8 @@ outgoing-stricter {c} {c'} p (framed e option flag) d f =
     (when-effect (eqb (e .kind) 13) (λ t. informed-stricter c c' e _ p a d) (messaged-stricter c c' e _ p a f))
 
 -- "option 0 to 2", or unused and 0, in every row of the table of kinds
-option-small : (e : Event) → T (wellMade e) → e .option ≤ 2
-unfolding wellMade
+option-small : (e : Event) → T (callMade e) → e .option ≤ 2
+unfolding callMade
 option-small e t =
     by-cases (leb (e .option) 2) (leb-true (e .option) 2)
     (λ n. let big : 2 < e .option = leb-false (e .option) 2 n in absurd (simp (n, ne-eqb (e .option) 0 (λ z. omega arith), and-false) at t))
@@ -256,7 +256,7 @@ act-framed identifier p (framed e option flag) only d f =
     (when-effect (clock e) (λ t. expired-stricter p) (ended-stricter p))))
 
 -- what an event does to a record and to a stricter one
-pub act-rel : {c c' : Call} {e e' : Event} (identifier : ℕ) → StricterCall c c' → StricterEvent e e' → T (wellMade e)
+pub act-rel : {c c' : Call} {e e' : Event} (identifier : ℕ) → StricterCall c c' → StricterEvent e e' → T (callMade e)
     → StricterEffect (act c e identifier) (act c' e' identifier)
 act-rel {e = e} identifier p q t = act-framed identifier p (framed-of q) (incoming-same q) (dli1-of q (option-small e t)) (flag-of q)
 

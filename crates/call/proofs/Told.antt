@@ -11,7 +11,7 @@ use Rattle.ground.proofs.Bools.{and-l, and-r, or-left, or-right, nor-l, nor-r, 
 use Rattle.ground.proofs.Walks.{and-false}
 use Rattle.event.specs.declared.Event.{Event}
 use Rattle.event.specs.Kinds.{cfnr, facility, alerting, connect, releaseComplete, onLeg2, opens, ofOutgoing}
-use Rattle.event.specs.WellMade.{reroutingFields, messageFields, wellMade}
+use Rattle.event.specs.WellMade.{reroutingFields, messageFields, callMade}
 use Rattle.notice.specs.declared.History.{History}
 use Rattle.notice.specs.Notice.{noNotice, noNumber, noHistory, seen, numberShown, afterDli3}
 use Rattle.notice.specs.Whole.{Told, dli1, diverted}
@@ -200,7 +200,7 @@ tells-same accepted c e w =
 
 -- an event that a sound record takes
 pub act-told : (last identifier : ℕ) (l : List Told) (accepted : List Dli1) (c : Call) (e : Event) → T (not (eqb identifier 0)) → T (soundCall last c)
-    → last ≤ e .time → T (wellMade e) → T (addressed c e) → T (not (stateForbids c e)) → Remembers l (c .history) → waitingOf c ≡ accepted
+    → last ≤ e .time → T (callMade e) → T (addressed c e) → T (not (stateForbids c e)) → Remembers l (c .history) → waitingOf c ≡ accepted
     → TellsOf l accepted c e (act c e identifier)
 act-told last identifier l accepted c e z h t f a n m w =
     let d : Call = act c e identifier .call in

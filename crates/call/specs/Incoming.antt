@@ -1,16 +1,18 @@
 -- "Rules for incoming calls": what an event that is taken does. "Messages of incoming calls bear leg 1."
-use Prim.Native.Nat.{ℕ, suc, _+_, _-_}
-use mathlib.Core.Bool.{Bool, _&&_}
-use lib.Dec.{leb, eqb}
+use Prim.Native.Nat.{ℕ, suc, _+_}
+use mathlib.Core.Bool.{Bool}
+use lib.Dec.{eqb}
 use Rattle.ground.specs.Choice.{when_then_else_}
 use Rattle.event.specs.declared.Event.{Event}
 use Rattle.event.specs.Kinds.{allowed, OpenWithDli2, UserAlerted, UserAnswers, DivertCall, ReroutingResult, ReroutingError, DivertedLegFailed}
 use Rattle.notice.specs.Notice.{noNotice, noNumber, unmarked, marked, noHistory}
+use Rattle.timed.specs.declared.Pending.{Pending}
+use Rattle.timed.specs.Timed as timed
 use Rattle.waits.specs.Waits.{noWaits}
 use Rattle.call.specs.declared.Call.{Call}
 use Rattle.call.specs.declared.Message.{Message}
 use Rattle.call.specs.declared.Effect.{Effect}
-use Rattle.call.specs.Record.{incoming, Proceeding, Received, Active, Idle, Requested, CdfNone, Wait, CdfDone, requested, wait, undiverted, freeCall}
+use Rattle.call.specs.Record.{incoming, Proceeding, Received, Active, Idle, CdfNone, Wait, CdfDone, requestOf, wait, undiverted, freeCall}
 use Rattle.call.specs.Fields.{basic-is, cds-is, cdf-is, granted-is, identifier-is, reason-is, start-is}
 use Rattle.call.specs.Messages.{noCounter, letterI, alertingOn, connectOn, connectWithDli3, one, nothing, sending, silent}
 
@@ -41,9 +43,13 @@ openedIncoming e = record {
 abbrev pub alerted : Call → Effect
 alerted c = sending (basic-is Received c) (one (alertingOn 1))
 
+-- another request in a record
+abbrev pub request-is : Pending → Call → Call
+request-is p c = cds-is (p .wait) (identifier-is (p .identifier) (start-is (p .start) c))
+
 -- "8: Idle, not granted": a request or grant with all that belongs to it is gone
 abbrev pub idle : Call → Call
-idle c = cds-is Idle (granted-is unmarked (identifier-is 0 (reason-is 0 (start-is 0 c))))
+idle c = granted-is unmarked (reason-is 0 (request-is timed.idle c))
 
 -- "DLI3 with the flag, and the own number only if allowed"
 abbrev pub ownIfAllowed : Call → Event → ℕ
@@ -86,7 +92,7 @@ invokeOf c e identifier = record {
 
 -- "Enters Requested, starts T1."
 abbrev pub asking : Call → Event → ℕ → Call
-asking c e identifier = cds-is Requested (reason-is (e .reason) (identifier-is identifier (start-is (e .time) c)))
+asking c e identifier = reason-is (e .reason) (request-is (timed.asked identifier (e .time)) c)
 
 -- "6: .."
 abbrev pub diverted : Call → Event → ℕ → Effect
@@ -101,15 +107,11 @@ diverted c e identifier = record {
 
 -- "7: Idle, granted."
 abbrev pub grant : Call → Call
-grant c = cds-is Idle (granted-is marked (identifier-is 0 (start-is 0 c)))
-
--- T1's length: "time minus start at least 10,000"
-abbrev pub t1 : ℕ
-t1 = 10000
+grant c = granted-is marked (request-is timed.idle c)
 
 -- "of the records Requested with time minus start at least 10,000"
 abbrev pub due : ℕ → Call → Bool
-due time c = requested c && leb t1 (time - c .start)
+due time c = timed.due timed.t1 time (requestOf c)
 
 -- "the lowest ends as by a reject and the answer names call and identifier"
 abbrev pub expired : Call → Effect

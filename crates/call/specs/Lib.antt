@@ -9,3 +9,4 @@ pub mod Act
 pub mod Stricter
 pub mod Told
 pub mod Identifiers
+pub mod Timed

@@ -4,6 +4,8 @@ use mathlib.Core.Bool.{Bool, _&&_, _||_, not}
 use lib.Dec.{eqb}
 use Rattle.event.specs.Kinds.{cfu, cfb, cfnr}
 use Rattle.notice.specs.Notice.{marked, noHistory}
+use Rattle.timed.specs.declared.Pending.{Pending}
+use Rattle.timed.specs.Timed.{Waiting, waits}
 use Rattle.waits.specs.Waits.{noWaits, lastNumber}
 use Rattle.call.specs.declared.Call.{Call}
 
@@ -69,12 +71,15 @@ Invoked = 1
 abbrev pub invoked : Call → Bool
 invoked c = eqb (c .cdr) Invoked
 
--- "CDS Idle or Requested"
+-- "CDS Idle or Requested": a request that waits for its answer while T1 runs
 abbrev pub Requested : ℕ
-Requested = 1
+Requested = Waiting
+
+abbrev pub requestOf : Call → Pending
+requestOf c = record { start = c .start; identifier = c .identifier; wait = c .cds }
 
 abbrev pub requested : Call → Bool
-requested c = eqb (c .cds) Requested
+requested c = waits (requestOf c)
 
 -- "CDF none, Wait or done"
 abbrev pub CdfNone : ℕ

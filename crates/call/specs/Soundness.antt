@@ -3,20 +3,14 @@ use Prim.Native.Nat.{ℕ}
 use mathlib.Core.Bool.{Bool, false, _&&_, _||_, not}
 use lib.Dec.{leb, eqb}
 use Rattle.ground.specs.Choice.{when_then_else_}
+-- "exactly when" and "only" of the page, passed on
+pub use Rattle.ground.specs.Choice.{exactly, only}
 use Rattle.event.specs.Kinds.{cfnr, withNumber}
 use Rattle.notice.specs.declared.History.{History}
 use Rattle.notice.specs.Notice.{marked, seen}
 use Rattle.waits.specs.Soundness.{waitsHold, waitsUnused}
 use Rattle.call.specs.declared.Call.{Call}
 use Rattle.call.specs.Record.{Proceeding, Active, Divert, Invoked, Requested, CdfDone, isFree, isOutgoing, isIncoming, active, delivered, divert, invoked, requested, wait, granted, undiverted, cdfNone, fits}
-
--- a exactly when b
-abbrev pub exactly : Bool → Bool → Bool
-exactly a b = (a && b) || (not a && not b)
-
--- a only with b
-abbrev pub only : Bool → Bool → Bool
-only a b = not a || b
 
 abbrev pub historyUnused : History → Bool
 historyUnused h =

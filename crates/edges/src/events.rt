@@ -102,3 +102,15 @@ pub fn reroute(call: u8, counter: u8, time: u64) -> Event {
     e.time = time;
     e
 }
+
+// A received invoke of kinds 20 to 23 from panel 3.
+pub fn remote_invoke(kind: u8, reason: u8, destination: u16, identifier: u16, time: u64) -> Event {
+    let mut e = unused();
+    e.kind = kind;
+    e.reason = reason;
+    e.identifier = identifier;
+    e.first = 3;
+    e.second = destination;
+    e.time = time;
+    e
+}

@@ -76,19 +76,21 @@ pub fn zeros() {
     ticked(c, 5);
 }
 
-fn fresh_code(limit: u8) {
-    let made = station::fresh(limit);
+fn fresh_code(limit: u8, mark: u8) {
+    let made = station::fresh(limit, mark, mark);
     io::print_decimal(1, made.code as u64);
     say(b"\n");
 }
 
-// "3: .. a fresh station's limit outside 1 to 15 (no station is made)"
+// "3: .. a fresh station's limit outside 1 to 15 (no station is made)"; so is a mark above 1
 pub fn fresh_codes() {
-    say(b"# fresh: 0, 1, 15, 16\n");
-    fresh_code(0);
-    fresh_code(1);
-    fresh_code(15);
-    fresh_code(16);
+    say(b"# fresh: 0, 1, 15, 16; with marks 0, 2\n");
+    fresh_code(0, 1);
+    fresh_code(1, 1);
+    fresh_code(15, 1);
+    fresh_code(16, 1);
+    fresh_code(15, 0);
+    fresh_code(15, 2);
 }
 
 // The board with a record of the host's in its first place, at the last time 10.

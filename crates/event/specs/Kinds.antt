@@ -126,6 +126,59 @@ OutgoingMessage = 14
 abbrev pub FarEndEnds : ℕ
 FarEndEnds = 15
 
+-- document 02, Seven: "New kinds, in this order of sorts: 16 to 19 our user's request": activation, deactivation, interrogation and the
+-- restriction check
+abbrev pub AskActivation : ℕ
+AskActivation = 16
+
+abbrev pub AskDeactivation : ℕ
+AskDeactivation = 17
+
+abbrev pub AskInterrogation : ℕ
+AskInterrogation = 18
+
+abbrev pub AskCheck : ℕ
+AskCheck = 19
+
+-- "20 to 23 the invoke received"
+abbrev pub ActivationInvoke : ℕ
+ActivationInvoke = 20
+
+abbrev pub DeactivationInvoke : ℕ
+DeactivationInvoke = 21
+
+abbrev pub InterrogationInvoke : ℕ
+InterrogationInvoke = 22
+
+abbrev pub CheckInvoke : ℕ
+CheckInvoke = 23
+
+-- "24 to 27 a result"
+abbrev pub ActivationResult : ℕ
+ActivationResult = 24
+
+abbrev pub DeactivationResult : ℕ
+DeactivationResult = 25
+
+abbrev pub InterrogationResult : ℕ
+InterrogationResult = 26
+
+abbrev pub CheckResult : ℕ
+CheckResult = 27
+
+-- "28 to 31 an error or reject"
+abbrev pub ActivationError : ℕ
+ActivationError = 28
+
+abbrev pub DeactivationError : ℕ
+DeactivationError = 29
+
+abbrev pub InterrogationError : ℕ
+InterrogationError = 30
+
+abbrev pub CheckError : ℕ
+CheckError = 31
+
 -- the three opens
 abbrev pub opens : Event → Bool
 opens e = leb OpenOutgoing (e .kind) && leb (e .kind) OpenWithDli2

@@ -2,7 +2,9 @@
 use Prim.Native.Nat.{ℕ}
 use mathlib.Core.Bool.{Bool, _&&_, _||_, not}
 use lib.Dec.{leb, eqb}
+use Rattle.ground.specs.Choice.{when_then_else_}
 use Rattle.event.specs.declared.Event.{Event}
+use Rattle.event.specs.Remote.{ofRemote, remoteFields}
 use Rattle.event.specs.Kinds.{cfu, cfnr, withNumber, noDli3, allowed, forbidden, FACILITY, RELEASE-COMPLETE, facility, releaseComplete, OpenOutgoing, OpenIncoming, OpenWithDli2, UserAlerted, UserAnswers, DivertCall, ReroutingResult, ReroutingError, DivertedLegFailed, Clock, OwnSideEnds, ReroutingInvoke, Dli1Received, OutgoingMessage, FarEndEnds}
 
 -- "1 open outgoing: first: party, not 0"; "2 open incoming: first: own number, not 0"
@@ -72,8 +74,8 @@ messageFields e =
     && (not (releaseComplete e) || eqb (e .flag) noDli3)
 
 -- the kind is one of 1 to 15 and its fields are as its row says
-unfoldable pub wellMade : Event → Bool
-wellMade e =
+unfoldable pub callMade : Event → Bool
+callMade e =
     ((eqb (e .kind) OpenOutgoing || eqb (e .kind) OpenIncoming) && openFields e)
     || (eqb (e .kind) OpenWithDli2 && openDivertedFields e)
     || ((eqb (e .kind) UserAlerted || eqb (e .kind) DivertedLegFailed || eqb (e .kind) OwnSideEnds || eqb (e .kind) FarEndEnds) && callOnly e)
@@ -84,3 +86,7 @@ wellMade e =
     || (eqb (e .kind) ReroutingInvoke && reroutingFields e)
     || (eqb (e .kind) Dli1Received && dli1Fields e)
     || (eqb (e .kind) OutgoingMessage && messageFields e)
+
+-- the kind is one of 1 to 31 and its fields are as the page says; kinds 16 to 31 have one rule
+unfoldable pub wellMade : Event → Bool
+wellMade e = when ofRemote e then remoteFields e else callMade e

@@ -2,7 +2,11 @@
 ghost use mathlib.Core.Path.{_≡_};
 ghost use Prim.Native.Nat.{ℕ, _+_, _≤_, _<_};
 ghost use Rattle.event.specs.Record.{eventAt};
-ghost use Rattle.event.specs.WellMade.{openFields, openDivertedFields, callOnly, answerFields, divertFields, outcomeFields, clockFields, reroutingFields, dli1Fields, messageFields, wellMade};
+ghost use Rattle.event.specs.WellMade.{openFields, openDivertedFields, callOnly, answerFields, divertFields, outcomeFields, clockFields, reroutingFields, dli1Fields, messageFields, callMade, wellMade};
+ghost use Rattle.event.specs.Remote.{asks, invokes, typeFits, hasDestination, othersZero, remoteFields};
+ghost use Rattle.ground.specs.Choice.{exactly, only};
+ghost use mathlib.Core.Bool.{not};
+ghost use lib.Dec.{eqb};
 
 // One event; a field that its kind doesn't use is 0.
 #[repr(C)]
@@ -209,9 +213,9 @@ fn message_fields(e: Event) -> bool
 
 // The kind is one of the table, and each field is as its row says. Only the row of the event's kind is looked at; neighbours
 // have an arm each, since `1 | 2` would be compiled as a range, tested after all others.
-pub fn well_made(kind: u8, e: Event) -> bool
+fn call_made(kind: u8, e: Event) -> bool
     requires { ⌜ kind ≡ e .kind ⌝ }
-    ensures { λ r. ⌜ r ≡ wellMade e ⌝ }
+    ensures { λ r. ⌜ r ≡ callMade e ⌝ }
 {
     match kind {
         1 => open_fields(e),
@@ -228,4 +232,71 @@ pub fn well_made(kind: u8, e: Event) -> bool
         14 => message_fields(e),
         _ => false,
     }
+}
+
+fn type_fits(e: Event) -> bool
+    ensures { λ r. ⌜ r ≡ typeFits e ⌝ }
+{
+    let reason = e.reason;
+    if (16 <= e.kind) & (e.kind <= 23) & !(e.kind % 4 == 3) {
+        return (1 <= reason) & (reason <= 3);
+    }
+    reason == 0
+}
+
+fn exactly(a: bool, b: bool) -> bool
+    ensures { λ r. ⌜ r ≡ exactly a b ⌝ }
+{
+    (a & b) | (!a & !b)
+}
+
+fn others_zero(e: Event) -> bool
+    ensures { λ r. ⌜ r ≡ othersZero e ⌝ }
+{
+    (e.call == 0)
+        & (e.leg == 0)
+        & (e.message == 0)
+        & (e.option == 0)
+        & (e.counter == 0)
+        & (e.flag == 0)
+        & (e.third == 0)
+}
+
+fn first_fits(e: Event) -> bool
+    ensures { λ r. ⌜ r ≡ exactly (invokes e) (not (eqb (e .first) 0)) ⌝ }
+{
+    exactly((16 <= e.kind) & (e.kind <= 23), !(e.first == 0))
+}
+
+fn second_fits(e: Event) -> bool
+    ensures { λ r. ⌜ r ≡ exactly (hasDestination e) (not (eqb (e .second) 0)) ⌝ }
+{
+    exactly(
+        (e.kind == 16) | (e.kind == 20) | (e.kind == 26),
+        !(e.second == 0),
+    )
+}
+
+fn identifier_fits(e: Event) -> bool
+    ensures { λ r. ⌜ r ≡ only (asks e) (eqb (e .identifier) 0) ⌝ }
+{
+    !((16 <= e.kind) & (e.kind <= 19)) | (e.identifier == 0)
+}
+
+// The fields of an event of kinds 16 to 31 are as the page says.
+pub fn remote_fields(e: Event) -> bool
+    ensures { λ r. ⌜ r ≡ remoteFields e ⌝ }
+{
+    others_zero(e) & first_fits(e) & type_fits(e) & second_fits(e) & identifier_fits(e)
+}
+
+// The kind is one of 1 to 31, and each field is as the page says.
+pub fn well_made(kind: u8, e: Event) -> bool
+    requires { ⌜ kind ≡ e .kind ⌝ }
+    ensures { λ r. ⌜ r ≡ wellMade e ⌝ }
+{
+    if (16 <= e.kind) & (e.kind <= 31) {
+        return remote_fields(e);
+    }
+    call_made(kind, e)
 }

@@ -4,3 +4,4 @@ pub mod Draw
 pub mod Reading
 pub mod Joined
 pub mod Gathered
+pub mod Holders

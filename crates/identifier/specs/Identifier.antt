@@ -17,7 +17,7 @@ after identifier =
 abbrev pub taken : List ℕ → ℕ → Bool
 taken held identifier = any (eqb identifier) held
 
--- "no two Requested records share an identifier"
+-- "no two Requested records share an identifier"; document 02, Seven: "so "no two open requests share" covers both tables"
 unfoldable pub distinct : List ℕ → Bool
 distinct [] = true
 distinct (identifier ∷ rest) = not (taken rest identifier) && distinct rest
@@ -29,9 +29,12 @@ firstFree (suc more) held candidate =
     let later = firstFree more held (after candidate) in
     when taken held candidate then later else candidate
 
--- at most 64 requests are open, so one of 65 candidates is free
+-- at most 68 requests are open, 64 of calls and one of each remote sort, so one of 69 candidates is free
+abbrev pub mostOpen : ℕ
+mostOpen = 68
+
 abbrev pub candidates : ℕ
-candidates = 65
+candidates = suc mostOpen
 
 abbrev pub drawn : List ℕ → ℕ → ℕ
 drawn held next = firstFree candidates held next

@@ -8,7 +8,7 @@ use mathlib.Core.Logic.{_↔_}
 use mathlib.Core.List.{List}
 use lib.Dec.{T}
 use lib.ListN.{length, getD}
-use Rattle.identifier.specs.Identifier.{after, taken, distinct, drawn}
+use Rattle.identifier.specs.Identifier.{after, taken, distinct, mostOpen, drawn}
 
 -- the identifier that lies so many steps from one on, round after 65,535
 unfoldable pub candidate : ℕ → ℕ → ℕ
@@ -38,16 +38,16 @@ pub record First (held : List ℕ) (next identifier : ℕ) : Type 0 where
   pub before : (i : ℕ) → i < steps → T (taken held (candidate next i))
   pub free : T (taken held identifier) → ⊥
 
--- where at most 64 requests are open, no open request has the identifier drawn
+-- where at most 68 requests are open, no open request has the identifier drawn
 abbrev pub Free : Type 0
-Free = (held : List ℕ) (next : ℕ) → length held ≤ 64 → T (taken held (drawn held next)) → ⊥
+Free = (held : List ℕ) (next : ℕ) → length held ≤ mostOpen → T (taken held (drawn held next)) → ⊥
 
 -- it is the first such from the next on, and the only one that is so
 abbrev pub DrawsFirst : Type 0
-DrawsFirst = (held : List ℕ) (next : ℕ) → length held ≤ 64 → First held next (drawn held next)
+DrawsFirst = (held : List ℕ) (next : ℕ) → length held ≤ mostOpen → First held next (drawn held next)
 
 abbrev pub OnlyFirst : Type 0
-OnlyFirst = (held : List ℕ) (next identifier : ℕ) → length held ≤ 64 → First held next identifier → identifier ≡ drawn held next
+OnlyFirst = (held : List ℕ) (next identifier : ℕ) → length held ≤ mostOpen → First held next identifier → identifier ≡ drawn held next
 
 -- an identifier has 16 bits: drawn from one that has, and the one after any
 abbrev pub DrawsSmall : Type 0
@@ -60,7 +60,7 @@ AfterSmall = (identifier : ℕ) → after identifier < 65536
 abbrev pub DrawsThere : Type 0
 DrawsThere = (held : List ℕ) (next : ℕ) → (next ≡ 0 → ⊥) → drawn held next ≡ 0 → ⊥
 
--- "no two Requested records share an identifier", place by place
+-- "no two open requests share", place by place
 abbrev pub Apart : List ℕ → Type 0
 Apart held = (i j : ℕ) → i < length held → j < length held → getD held i 0 ≡ getD held j 0 → i ≡ j
 

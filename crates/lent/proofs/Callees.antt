@@ -68,8 +68,9 @@ pub short : (len n : ℕ) → n ≡ fitOf len → (n ≤ len) × (n ≤ 64)
 short len n e = rw e (fit-le len)
 
 -- a value at the machine value that it is spelled by
-abbrev pub IsI : Input → Type 0
-IsI x = Is I.the-row x (I′.lowered x ∷ [])
+-- (of the input, at any machine value: it is large, and a variable is compared at once)
+abbrev pub IsI : Input → Val → Type 0
+IsI x u = Is I.the-row x (u ∷ [])
 
 abbrev pub IsQ : Asked → Type 0
 IsQ x = Is Q.the-row x (Q′.lowered x ∷ [])
@@ -172,44 +173,44 @@ module _ {M : Type 1} (𝓤 : URA M) (H : Heap 𝓤) (A : Atoms 𝓤) (mem : Mem
   abbrev pub to-fit : ℕ → Fit .Ghost
   to-fit len = ((tt, tt, tt, (len, tt), (vint w64 len ∷ [], tt)), tt)
 
-  abbrev pub to-asked : Input → Ask .Ghost
-  to-asked input = ((tt, tt, tt, (input, tt), (I′.lowered input ∷ [], tt)), tt)
+  abbrev pub to-asked : Input → Val → Ask .Ghost
+  to-asked input u = ((tt, tt, tt, (input, tt), (u ∷ [], tt)), tt)
 
   abbrev pub to-survey : Lft → Share → ℕ → ℕ → GName → List Call → ℕ → Asked → Survey .Ghost
   to-survey κ q b o δ ys n q₁ = (((κ, tt), (q, tt), tt, (slice-at b o δ ys, (n, (q₁, tt))), (sliceVal (b, o) (length ys) ∷ [], (vint w64 n ∷ [], (Q′.lowered q₁ ∷ [], tt)))), tt)
 
-  abbrev pub to-place : Noted → Input → Place .Ghost
-  to-place v input = ((tt, tt, tt, (v, (input, tt)), (N′.lowered v ∷ [], (I′.lowered input ∷ [], tt))), tt)
+  abbrev pub to-place : Noted → Input → Val → Place .Ghost
+  to-place v input u = ((tt, tt, tt, (v, (input, tt)), (N′.lowered v ∷ [], (u ∷ [], tt))), tt)
 
   abbrev pub to-read : Lft → Share → ℕ → ℕ → GName → List Call → ℕ → ℕ → Read .Ghost
   to-read κ q b o δ ys n i = (((κ, tt), (q, tt), tt, (slice-at b o δ ys, (n, (i, tt))), (sliceVal (b, o) (length ys) ∷ [], (vint w64 n ∷ [], (vint w64 i ∷ [], tt)))), tt)
 
-  abbrev pub to-wants : Noted → Input → Wants .Ghost
-  to-wants v input = ((tt, tt, tt, (v, (input, tt)), (N′.lowered v ∷ [], (I′.lowered input ∷ [], tt))), tt)
+  abbrev pub to-wants : Noted → Input → Val → Wants .Ghost
+  to-wants v input u = ((tt, tt, tt, (v, (input, tt)), (N′.lowered v ∷ [], (u ∷ [], tt))), tt)
 
   abbrev pub to-column : Lft → Share → ℕ → ℕ → GName → List Call → ℕ → Column .Ghost
   to-column κ q b o δ ys n = (((κ, tt), (q, tt), tt, (slice-at b o δ ys, (n, tt)), (sliceVal (b, o) (length ys) ∷ [], (vint w64 n ∷ [], tt))), tt)
 
-  abbrev pub to-from-column : Input → Noted → List ℕ → Val → FromColumn .Ghost
-  to-from-column input v held w = ((tt, tt, tt, (input, (v, (held, tt))), (I′.lowered input ∷ [], (N′.lowered v ∷ [], (w ∷ [], tt)))), tt)
+  abbrev pub to-from-column : Input → Val → Noted → List ℕ → Val → FromColumn .Ghost
+  to-from-column input u v held w = ((tt, tt, tt, (input, (v, (held, tt))), (u ∷ [], (N′.lowered v ∷ [], (w ∷ [], tt)))), tt)
 
-  abbrev pub to-stands : Input → Stands .Ghost
-  to-stands input = ((tt, tt, tt, (input, tt), (I′.lowered input ∷ [], tt)), tt)
+  abbrev pub to-stands : Input → Val → Stands .Ghost
+  to-stands input u = ((tt, tt, tt, (input, tt), (u ∷ [], tt)), tt)
 
-  abbrev pub to-picked : Lft → Share → ℕ → ℕ → GName → List Call → ℕ → Noted → Input → Picks .Ghost
-  to-picked κ q b o δ ys n v input = (((κ, tt), (q, tt), tt, (slice-at b o δ ys, (n, (v, (input, tt)))), (sliceVal (b, o) (length ys) ∷ [], (vint w64 n ∷ [], (N′.lowered v ∷ [], (I′.lowered input ∷ [], tt))))), tt)
+  abbrev pub to-picked : Lft → Share → ℕ → ℕ → GName → List Call → ℕ → Noted → Input → Val → Picks .Ghost
+  to-picked κ q b o δ ys n v input u = (((κ, tt), (q, tt), tt, (slice-at b o δ ys, (n, (v, (input, tt)))), (sliceVal (b, o) (length ys) ∷ [], (vint w64 n ∷ [], (N′.lowered v ∷ [], (u ∷ [], tt))))), tt)
 
-  abbrev pub to-decided : Input → Noted → ℕ → Pick → Call → Decide .Ghost
-  to-decided input v n p c = ((tt, tt, tt, (input, (v, (n, (p, (c, tt))))), (I′.lowered input ∷ [], (N′.lowered v ∷ [], (vint w64 n ∷ [], (P′.lowered p ∷ [], (vals c, tt)))))), tt)
+  abbrev pub to-decided : Input → Val → Noted → ℕ → Pick → Call → Decide .Ghost
+  to-decided input u v n p c = ((tt, tt, tt, (input, (v, (n, (p, (c, tt))))), (u ∷ [], (N′.lowered v ∷ [], (vint w64 n ∷ [], (P′.lowered p ∷ [], (vals c, tt)))))), tt)
 
   module _ (W : Given 𝓤 H A) where
     pub goes-fit : (len : ℕ) → len < 2 ^ 64 → ent 𝓤 (emp 𝓤) (Fit .pre (to-fit len))
     goes-fit len g0 =
         qed W [] ∵ nothing ! $ owned ! usize (Is usize) (uint-makes 𝓤 H A W w64) len (vint w64 len ∷ []) (refl, g0) $ fjoin ! $ nothing ! $ join ! $ frame ! $ done !
 
-    pub goes-asked : (input : Input) → IsI input → ent 𝓤 (emp 𝓤) (Ask .pre (to-asked input))
-    goes-asked input g0 =
-        qed W [] ∵ nothing ! $ owned ! I.the-row (Is I.the-row) (LL.makes I.the-type I′.the-plain 𝓤 H A) input (I′.lowered input ∷ []) g0 $ fjoin ! $ nothing ! $ join ! $ frame ! $ done !
+    pub goes-asked : (input : Input) (u : Val) → IsI input u → ent 𝓤 (emp 𝓤) (Ask .pre (to-asked input u))
+    goes-asked input u g0 =
+        qed W [] ∵ nothing ! $ owned ! I.the-row (Is I.the-row) (LL.makes I.the-type I′.the-plain 𝓤 H A) input (u ∷ []) g0 $ fjoin ! $ nothing ! $ join ! $ frame ! $ done !
 
     pub goes-survey : (κ : Lft) (q : Share) (b o : ℕ) (δ : GName) (ys : List Call) (n : ℕ) (q₁ : Asked) → n < 2 ^ 64 → IsQ q₁ → n ≤ length ys →
         ent 𝓤 (sep 𝓤 (A .lft κ q) (sem 𝓤 H A (ShrSlice (named 0) κ R .own (slice-at b o δ ys) (sliceVal (b, o) (length ys) ∷ [])))) (Survey .pre (to-survey κ q b o δ ys n q₁))
@@ -217,9 +218,9 @@ module _ {M : Type 1} (𝓤 : URA M) (H : Heap 𝓤) (A : Atoms 𝓤) (mem : Mem
         qed W (‵ (flft κ q) ∷ ‵ (ShrSlice (named 0) κ R .own (slice-at b o δ ys) (sliceVal (b, o) (length ys) ∷ [])) ∷ []) ∵ says ! ok $ nothing ! $ move ! (1 ∷ 0 ∷ []) $ join ! $ frame ! $
         nothing ! $ owned ! Q.the-row (Is Q.the-row) (LL.makes Q.the-type Q′.the-plain 𝓤 H A) q₁ (Q′.lowered q₁ ∷ []) g1 $ fjoin ! $ owned ! usize (Is usize) (uint-makes 𝓤 H A W w64) n (vint w64 n ∷ []) (refl, g0) $ fjoin ! $ move ! (1 ∷ 0 ∷ []) $ fjoin ! $ done !
 
-    pub goes-place : (v : Noted) (input : Input) → IsN v → IsI input → ent 𝓤 (emp 𝓤) (Place .pre (to-place v input))
-    goes-place v input g0 g1 =
-        qed W [] ∵ nothing ! $ owned ! I.the-row (Is I.the-row) (LL.makes I.the-type I′.the-plain 𝓤 H A) input (I′.lowered input ∷ []) g1 $ fjoin ! $ owned ! N.the-row (Is N.the-row) (LL.makes N.the-type N′.the-plain 𝓤 H A) v (N′.lowered v ∷ []) g0 $ fjoin ! $ nothing ! $ join ! $ frame ! $ done !
+    pub goes-place : (v : Noted) (input : Input) (u : Val) → IsN v → IsI input u → ent 𝓤 (emp 𝓤) (Place .pre (to-place v input u))
+    goes-place v input u g0 g1 =
+        qed W [] ∵ nothing ! $ owned ! I.the-row (Is I.the-row) (LL.makes I.the-type I′.the-plain 𝓤 H A) input (u ∷ []) g1 $ fjoin ! $ owned ! N.the-row (Is N.the-row) (LL.makes N.the-type N′.the-plain 𝓤 H A) v (N′.lowered v ∷ []) g0 $ fjoin ! $ nothing ! $ join ! $ frame ! $ done !
 
     pub goes-read : (κ : Lft) (q : Share) (b o : ℕ) (δ : GName) (ys : List Call) (n : ℕ) (i : ℕ) → n < 2 ^ 64 → i < 2 ^ 64 → n ≤ length ys →
         ent 𝓤 (sep 𝓤 (A .lft κ q) (sem 𝓤 H A (ShrSlice (named 0) κ R .own (slice-at b o δ ys) (sliceVal (b, o) (length ys) ∷ [])))) (Read .pre (to-read κ q b o δ ys n i))
@@ -227,9 +228,9 @@ module _ {M : Type 1} (𝓤 : URA M) (H : Heap 𝓤) (A : Atoms 𝓤) (mem : Mem
         qed W (‵ (flft κ q) ∷ ‵ (ShrSlice (named 0) κ R .own (slice-at b o δ ys) (sliceVal (b, o) (length ys) ∷ [])) ∷ []) ∵ says ! ok $ nothing ! $ move ! (1 ∷ 0 ∷ []) $ join ! $ frame ! $
         nothing ! $ owned ! usize (Is usize) (uint-makes 𝓤 H A W w64) i (vint w64 i ∷ []) (refl, g1) $ fjoin ! $ owned ! usize (Is usize) (uint-makes 𝓤 H A W w64) n (vint w64 n ∷ []) (refl, g0) $ fjoin ! $ move ! (1 ∷ 0 ∷ []) $ fjoin ! $ done !
 
-    pub goes-wants : (v : Noted) (input : Input) → IsN v → IsI input → ent 𝓤 (emp 𝓤) (Wants .pre (to-wants v input))
-    goes-wants v input g0 g1 =
-        qed W [] ∵ nothing ! $ owned ! I.the-row (Is I.the-row) (LL.makes I.the-type I′.the-plain 𝓤 H A) input (I′.lowered input ∷ []) g1 $ fjoin ! $ owned ! N.the-row (Is N.the-row) (LL.makes N.the-type N′.the-plain 𝓤 H A) v (N′.lowered v ∷ []) g0 $ fjoin ! $ nothing ! $ join ! $ frame ! $ done !
+    pub goes-wants : (v : Noted) (input : Input) (u : Val) → IsN v → IsI input u → ent 𝓤 (emp 𝓤) (Wants .pre (to-wants v input u))
+    goes-wants v input u g0 g1 =
+        qed W [] ∵ nothing ! $ owned ! I.the-row (Is I.the-row) (LL.makes I.the-type I′.the-plain 𝓤 H A) input (u ∷ []) g1 $ fjoin ! $ owned ! N.the-row (Is N.the-row) (LL.makes N.the-type N′.the-plain 𝓤 H A) v (N′.lowered v ∷ []) g0 $ fjoin ! $ nothing ! $ join ! $ frame ! $ done !
 
     pub goes-column : (κ : Lft) (q : Share) (b o : ℕ) (δ : GName) (ys : List Call) (n : ℕ) → n < 2 ^ 64 → ((n ≤ length ys) × (n ≤ 64)) →
         ent 𝓤 (sep 𝓤 (A .lft κ q) (sem 𝓤 H A (ShrSlice (named 0) κ R .own (slice-at b o δ ys) (sliceVal (b, o) (length ys) ∷ [])))) (Column .pre (to-column κ q b o δ ys n))
@@ -237,20 +238,20 @@ module _ {M : Type 1} (𝓤 : URA M) (H : Heap 𝓤) (A : Atoms 𝓤) (mem : Mem
         qed W (‵ (flft κ q) ∷ ‵ (ShrSlice (named 0) κ R .own (slice-at b o δ ys) (sliceVal (b, o) (length ys) ∷ [])) ∷ []) ∵ says ! ok $ nothing ! $ move ! (1 ∷ 0 ∷ []) $ join ! $ frame ! $
         nothing ! $ owned ! usize (Is usize) (uint-makes 𝓤 H A W w64) n (vint w64 n ∷ []) (refl, g0) $ fjoin ! $ move ! (1 ∷ 0 ∷ []) $ fjoin ! $ done !
 
-    pub goes-from-column : (input : Input) (v : Noted) (held : List ℕ) (w : Val) → IsI input → IsN v → ent 𝓤 (sem 𝓤 H A (AU .own held (w ∷ []))) (FromColumn .pre (to-from-column input v held w))
-    goes-from-column input v held w g0 g1 =
-        qed W (‵ (AU .own held (w ∷ [])) ∷ []) ∵ nothing ! $ move ! (1 ∷ 0 ∷ []) $ fjoin ! $ owned ! N.the-row (Is N.the-row) (LL.makes N.the-type N′.the-plain 𝓤 H A) v (N′.lowered v ∷ []) g1 $ fjoin ! $ owned ! I.the-row (Is I.the-row) (LL.makes I.the-type I′.the-plain 𝓤 H A) input (I′.lowered input ∷ []) g0 $ fjoin ! $ nothing ! $ join ! $ frame ! $ done !
+    pub goes-from-column : (input : Input) (u : Val) (v : Noted) (held : List ℕ) (w : Val) → IsI input u → IsN v → ent 𝓤 (sem 𝓤 H A (AU .own held (w ∷ []))) (FromColumn .pre (to-from-column input u v held w))
+    goes-from-column input u v held w g0 g1 =
+        qed W (‵ (AU .own held (w ∷ [])) ∷ []) ∵ nothing ! $ move ! (1 ∷ 0 ∷ []) $ fjoin ! $ owned ! N.the-row (Is N.the-row) (LL.makes N.the-type N′.the-plain 𝓤 H A) v (N′.lowered v ∷ []) g1 $ fjoin ! $ owned ! I.the-row (Is I.the-row) (LL.makes I.the-type I′.the-plain 𝓤 H A) input (u ∷ []) g0 $ fjoin ! $ nothing ! $ join ! $ frame ! $ done !
 
-    pub goes-stands : (input : Input) → IsI input → ent 𝓤 (emp 𝓤) (Stands .pre (to-stands input))
-    goes-stands input g0 =
-        qed W [] ∵ nothing ! $ owned ! I.the-row (Is I.the-row) (LL.makes I.the-type I′.the-plain 𝓤 H A) input (I′.lowered input ∷ []) g0 $ fjoin ! $ nothing ! $ join ! $ frame ! $ done !
+    pub goes-stands : (input : Input) (u : Val) → IsI input u → ent 𝓤 (emp 𝓤) (Stands .pre (to-stands input u))
+    goes-stands input u g0 =
+        qed W [] ∵ nothing ! $ owned ! I.the-row (Is I.the-row) (LL.makes I.the-type I′.the-plain 𝓤 H A) input (u ∷ []) g0 $ fjoin ! $ nothing ! $ join ! $ frame ! $ done !
 
-    pub goes-picked : (κ : Lft) (q : Share) (b o : ℕ) (δ : GName) (ys : List Call) (n : ℕ) (v : Noted) (input : Input) → n < 2 ^ 64 → IsN v → IsI input → ((n ≤ length ys) × (n ≤ 64)) →
-        ent 𝓤 (sep 𝓤 (A .lft κ q) (sem 𝓤 H A (ShrSlice (named 0) κ R .own (slice-at b o δ ys) (sliceVal (b, o) (length ys) ∷ [])))) (Picks .pre (to-picked κ q b o δ ys n v input))
-    goes-picked κ q b o δ ys n v input g0 g1 g2 ok =
+    pub goes-picked : (κ : Lft) (q : Share) (b o : ℕ) (δ : GName) (ys : List Call) (n : ℕ) (v : Noted) (input : Input) (u : Val) → n < 2 ^ 64 → IsN v → IsI input u → ((n ≤ length ys) × (n ≤ 64)) →
+        ent 𝓤 (sep 𝓤 (A .lft κ q) (sem 𝓤 H A (ShrSlice (named 0) κ R .own (slice-at b o δ ys) (sliceVal (b, o) (length ys) ∷ [])))) (Picks .pre (to-picked κ q b o δ ys n v input u))
+    goes-picked κ q b o δ ys n v input u g0 g1 g2 ok =
         qed W (‵ (flft κ q) ∷ ‵ (ShrSlice (named 0) κ R .own (slice-at b o δ ys) (sliceVal (b, o) (length ys) ∷ [])) ∷ []) ∵ says ! ok $ nothing ! $ move ! (1 ∷ 0 ∷ []) $ join ! $ frame ! $
-        nothing ! $ owned ! I.the-row (Is I.the-row) (LL.makes I.the-type I′.the-plain 𝓤 H A) input (I′.lowered input ∷ []) g2 $ fjoin ! $ owned ! N.the-row (Is N.the-row) (LL.makes N.the-type N′.the-plain 𝓤 H A) v (N′.lowered v ∷ []) g1 $ fjoin ! $ owned ! usize (Is usize) (uint-makes 𝓤 H A W w64) n (vint w64 n ∷ []) (refl, g0) $ fjoin ! $ move ! (1 ∷ 0 ∷ []) $ fjoin ! $ done !
+        nothing ! $ owned ! I.the-row (Is I.the-row) (LL.makes I.the-type I′.the-plain 𝓤 H A) input (u ∷ []) g2 $ fjoin ! $ owned ! N.the-row (Is N.the-row) (LL.makes N.the-type N′.the-plain 𝓤 H A) v (N′.lowered v ∷ []) g1 $ fjoin ! $ owned ! usize (Is usize) (uint-makes 𝓤 H A W w64) n (vint w64 n ∷ []) (refl, g0) $ fjoin ! $ move ! (1 ∷ 0 ∷ []) $ fjoin ! $ done !
 
-    pub goes-decided : (input : Input) (v : Noted) (n : ℕ) (p : Pick) (c : Call) → IsI input → IsN v → n < 2 ^ 64 → IsP p → Is R c (vals c) → n ≤ 64 → ent 𝓤 (emp 𝓤) (Decide .pre (to-decided input v n p c))
-    goes-decided input v n p c g0 g1 g2 g3 g4 ok =
-        qed W [] ∵ says ! ok $ nothing ! $ owned ! R (Is R) (makes 𝓤 H A) c (vals c) g4 $ fjoin ! $ owned ! P.the-row (Is P.the-row) (LL.makes P.the-type P′.the-plain 𝓤 H A) p (P′.lowered p ∷ []) g3 $ fjoin ! $ owned ! usize (Is usize) (uint-makes 𝓤 H A W w64) n (vint w64 n ∷ []) (refl, g2) $ fjoin ! $ owned ! N.the-row (Is N.the-row) (LL.makes N.the-type N′.the-plain 𝓤 H A) v (N′.lowered v ∷ []) g1 $ fjoin ! $ owned ! I.the-row (Is I.the-row) (LL.makes I.the-type I′.the-plain 𝓤 H A) input (I′.lowered input ∷ []) g0 $ fjoin ! $ nothing ! $ done !
+    pub goes-decided : (input : Input) (u : Val) (v : Noted) (n : ℕ) (p : Pick) (c : Call) → IsI input u → IsN v → n < 2 ^ 64 → IsP p → Is R c (vals c) → n ≤ 64 → ent 𝓤 (emp 𝓤) (Decide .pre (to-decided input u v n p c))
+    goes-decided input u v n p c g0 g1 g2 g3 g4 ok =
+        qed W [] ∵ says ! ok $ nothing ! $ owned ! R (Is R) (makes 𝓤 H A) c (vals c) g4 $ fjoin ! $ owned ! P.the-row (Is P.the-row) (LL.makes P.the-type P′.the-plain 𝓤 H A) p (P′.lowered p ∷ []) g3 $ fjoin ! $ owned ! usize (Is usize) (uint-makes 𝓤 H A W w64) n (vint w64 n ∷ []) (refl, g2) $ fjoin ! $ owned ! N.the-row (Is N.the-row) (LL.makes N.the-type N′.the-plain 𝓤 H A) v (N′.lowered v ∷ []) g1 $ fjoin ! $ owned ! I.the-row (Is I.the-row) (LL.makes I.the-type I′.the-plain 𝓤 H A) input (u ∷ []) g0 $ fjoin ! $ nothing ! $ done !

@@ -1,6 +1,6 @@
 -- What was noted and picked of a lent table decides the event as the definition does, on every table; and what a decision stands for is the definition's step. Assumes nothing.
 use Prim.Native.Nat.{ℕ, _+_, _≤_, _<_, zero-le}
-use mathlib.Core.Bool.{Bool, true, false, _&&_, not}
+use mathlib.Core.Bool.{Bool, true, false, _&&_, _||_, not}
 use mathlib.Core.List.{List}
 use mathlib.Core.Path.{_≡_, refl, sym, ap, _∙_, subst}
 use native.Mathlib.Omega.{arith}
@@ -13,37 +13,40 @@ use Rattle.ground.specs.Lists.{first, all}
 use Rattle.ground.proofs.Bools.{by-cases, is-true, is-false, denied, upheld}
 use Rattle.event.specs.declared.Event.{Event}
 use Rattle.event.specs.Kinds.{diverts}
+use Rattle.event.specs.Remote.{asks, ofRemote}
 use Rattle.identifier.specs.Identifier.{distinct}
 use Rattle.call.specs.declared.Call.{Call}
 use Rattle.call.specs.Record.{isFree}
 use Rattle.call.specs.Incoming.{due}
 use Rattle.call.specs.Soundness.{soundCall}
 use Rattle.call.specs.Act.{act}
+use Rattle.remote.specs.declared.Pendings.{Pendings}
 use Rattle.station.specs.declared.Station.{Station}
 use Rattle.station.specs.Station.{stationOk}
-use Rattle.station.specs.Table.{at, place, sound, soundTable, requestsOf, identifierFor}
+use Rattle.station.specs.Table.{at, place, sound, soundTable, openIdentifiers, identifierFor}
 use Rattle.station.specs.Step.{step}
 use Rattle.sound.specs.Bounds.{inBounds}
 use Rattle.slice.specs.Table.{fitOf, settledAt}
 use Rattle.slice.proofs.Bounds.{fit-short, fit-long}
 use Rattle.notes.specs.Mask.{over}
-use Rattle.notes.specs.Notes.{identifierIn, frees, columnOf}
-use Rattle.notes.proofs.Held.{held-free, requests-over}
+use Rattle.notes.specs.Notes.{joinedOf, identifierIn, frees, columnOf}
+use Rattle.notes.proofs.Held.{requests-over}
+use Rattle.notes.proofs.Four.{joined-free}
 use Rattle.table.specs.Column.{apartIn}
 use Rattle.table.proofs.Columns.{column-apart}
 use Rattle.survey.specs.declared.Noted.{Noted}
 use Rattle.survey.specs.Survey.{surveyOf}
-use Rattle.survey.proofs.Laws.{survey-sound, survey-free, survey-due, survey-clash}
+use Rattle.survey.proofs.Laws.{survey-sound, survey-free, survey-due}
+use Rattle.survey.proofs.Four.{four-clash}
 use Rattle.turn.specs.declared.Seen.{Seen}
 use Rattle.turn.specs.declared.Turn.{Turn}
-use Rattle.turn.specs.declared.Turn.the-variants.{Refused, NoneDue, Done}
-use Rattle.turn.specs.Turn.{seenIn, beyond, numberOf, turnOf, actedOf, doable, decidedOf, stationOn, outcomeOf, Sees}
-use Rattle.turn.proofs.Sorts.{act-other}
+use Rattle.turn.specs.declared.Turn.the-variants.{Refused, Far, Done}
+use Rattle.turn.specs.Turn.{seenIn, beyond, numberOf, turnOf, actedOf, movedOf, doable, decidedOf, stationOn, stationFar, outcomeOf, Sees}
 use Rattle.turn.proofs.Turns.{done-doable}
-use Rattle.turn.proofs.Laws.{sees-in, same-station, turn-same, decided-steps}
+use Rattle.turn.proofs.Laws.{sees-in, same-act, same-moved, same-next, same-station, turn-same, decided-steps}
 use Rattle.lent.specs.declared.Input.{Input}
 use Rattle.lent.specs.declared.Pick.{Pick}
-use Rattle.lent.specs.Lent.{unchangedAs, decisionOf, decisionOn, outcomeBy, askedOf, placeSeen, wantsColumn, fromColumn, asItStands, pickedOf, seenBy, decisionBy}
+use Rattle.lent.specs.Lent.{unchangedAs, decisionOf, decisionOn, outcomeBy, askedOf, placeSeen, pendingIn, clashIn, wantsColumn, fromColumn, asItStands, pickedOf, seenBy, decisionBy}
 
 -- what was seen, with the place as the code holds it
 abbrev seenAt : ℕ → ℕ → Pick → Call → Seen
@@ -54,22 +57,23 @@ seenAt n i p c = record { len = n; place = i; identifier = p .identifier; call =
 -- what a turn on what was seen asks of the place
 abbrev There : Seen → Turn → Type 0
 There v (Refused code) = Unit
-There v NoneDue = Unit
+There v Far = Unit
 There v Done = v .place < v .len
 
 module _ (s : Station) (e : Event) (v : Seen) where
   turn-there : There v (turnOf s e v)
   unfolding turnOf
-  turn-there = go (eqb (numberOf s e v) 0) (beyond v) refl
+  turn-there = go (eqb (numberOf s e v) 0) (ofRemote e) (beyond v) refl
     where
-      go : (z b : Bool) → beyond v ≡ b → There v (when not z then Refused (numberOf s e v) else when b then NoneDue else Done)
-      go true true h = tt
-      go true false h = leb-false (v .len) (v .place) h
-      go false b h = tt
+      go : (z f b : Bool) → beyond v ≡ b → There v (when not z then Refused (numberOf s e v) else when f || b then Far else Done)
+      go true true b h = tt
+      go true false true h = tt
+      go true false false h = leb-false (v .len) (v .place) h
+      go false f b h = tt
 
-  within : (t : Turn) → There v t → decisionOf s e v t .place + decisionOf s e v t .count ≤ v .len
+  within : (t : Turn) → There v t → decisionOf s e v t .change .place + decisionOf s e v t .change .count ≤ v .len
   within (Refused code) h = zero-le
-  within NoneDue h = zero-le
+  within Far h = zero-le
   within Done h = omega (arith, h)
 
 module _ (s : Station) (calls : List Call) (e : Event) where
@@ -81,7 +85,7 @@ module _ (s : Station) (calls : List Call) (e : Event) where
       go true = turn-there s e (seenIn s calls e)
       go false = tt
 
-  pub decision-within : decisionOn s calls e .place + decisionOn s calls e .count ≤ length calls
+  pub decision-within : decisionOn s calls e .change .place + decisionOn s calls e .change .count ≤ length calls
   unfolding decisionOn
   decision-within = within s e (seenIn s calls e) (decidedOf s calls e) decided-there
 
@@ -90,7 +94,7 @@ module _ (s : Station) (calls : List Call) (e : Event) where
   stands-for : (v : Seen) (t : Turn) → outcomeBy calls (decisionOf s e v t) ≡ outcomeOf s calls e v t
   unfolding settledAt
   stands-for v (Refused code) = refl
-  stands-for v NoneDue = refl
+  stands-for v Far = refl
   stands-for v Done = refl
 
   pub decision-steps : outcomeBy calls (decisionOn s calls e) ≡ step s calls e
@@ -106,12 +110,14 @@ module _ (s : Station) (calls : List Call) (e : Event) where
     same-acted : v .place < v .len → actedOf e v ≡ actedOf e (seenIn s calls e)
     same-acted l =
         let c : v .call ≡ at calls (place calls e) = z .there (rw (← z .size) l) ∙ ap (at calls) p in
-        ap (λ (d : Call). act d e (v .identifier)) c
-        ∙ by-cases (diverts e) (λ d. ap (act (at calls (place calls e)) e) (z .drawn d)) (λ d. act-other e (at calls (place calls e)) (v .identifier) (identifierFor s calls) d)
+        ap (λ (d : Call). act d e (v .identifier)) c ∙ same-act s calls e v z (at calls (place calls e))
+
+    same-far : stationFar s e (v .identifier) (movedOf s e v .remote) ≡ stationFar s e (identifierFor s calls) (movedOf s e (seenIn s calls e) .remote)
+    same-far = rw (same-moved s calls e v z, same-next s calls e v z)
 
     same-decision : (t : Turn) → There v t → decisionOf s e v t ≡ decisionOf s e (seenIn s calls e) t
     same-decision (Refused code) h = refl
-    same-decision NoneDue h = rw same-after
+    same-decision Far h = rw (same-moved s calls e v z, same-next s calls e v z)
     same-decision Done h = rw (same-acted h, p, same-after)
 
     -- where the table passed its test
@@ -129,13 +135,13 @@ module _ (s : Station) (calls : List Call) (e : Event) where
         turned false = refl
 
 -- ---- what the code of `decided_on` found comes to
-module _ (input : Input) (v : Noted) (n : ℕ) (p : Pick) (c : Call) (fit : Bool) (bounds : fit ≡ inBounds n (input .station .limit) (input .station .next)) where
+module _ (input : Input) (v : Noted) (n : ℕ) (p : Pick) (c : Call) (fit : Bool) (bounds : fit ≡ inBounds n (input .station)) where
   pub by-refusal : not (fit && v .sound && p .apart) ≡ true → unchangedAs 1 (input .station) ≡ decisionBy input v n p c
-  by-refusal h = rw (denied (fit && v .sound && p .apart) (inBounds n (input .station .limit) (input .station .next) && v .sound && p .apart) (rw bounds) h)
+  by-refusal h = rw (denied (fit && v .sound && p .apart) (inBounds n (input .station) && v .sound && p .apart) (rw bounds) h)
 
   module _ (i : ℕ) (placed : i ≡ placeSeen v input) (t : Turn) (turns : turnOf (input .station) (input .event) (seenAt n i p c) ≡ t) where
     pub by-turn : not (fit && v .sound && p .apart) ≡ false → decisionOf (input .station) (input .event) (seenAt n i p c) t ≡ decisionBy input v n p c
-    by-turn h = rw (upheld (fit && v .sound && p .apart) (inBounds n (input .station .limit) (input .station .next) && v .sound && p .apart) (rw bounds) h, ← turns, placed)
+    by-turn h = rw (upheld (fit && v .sound && p .apart) (inBounds n (input .station) && v .sound && p .apart) (rw bounds) h, ← turns, placed)
 
     -- what is done has a rule
     pub has-rule : t ≡ Done → input .station .limit < 256 → doable (input .event) (seenAt n i p c)
@@ -182,24 +188,30 @@ module _ (input : Input) (ys : List Call) where
   same-place : placeSeen Whole input ≡ place ys e
   same-place = rw (free-place, due-place)
 
-  column-drawn : diverts e ≡ true → identifierIn e (columnOf (length ys) ys) (s .next) ≡ identifierFor s ys
-  column-drawn d = rw d (held-free 65 (over (length ys) ys frees) (s .next) ∙ rw (requests-over (length ys) ys, take-length ys))
+  abbrev p : Pendings
+  p = pendingIn input
 
-  all-apart : apartIn (columnOf (length ys) ys) ≡ distinct (requestsOf ys)
-  all-apart = column-apart (length ys) ys ∙ rw (take-length ys)
+  abbrev request : Bool
+  request = diverts e || asks e
 
-  no-clash : Whole .clash ≡ false → true ≡ distinct (requestsOf ys)
-  no-clash f = sym (survey-clash (askedOf input) (length ys) 0 ys f)
+  column-drawn : request ≡ true → identifierIn e (columnOf (length ys) ys) p (s .next) ≡ identifierFor s ys
+  column-drawn d = rw d (joined-free 69 (over (length ys) ys frees) p (s .next) ∙ rw (requests-over (length ys) ys, take-length ys))
 
-  -- what is picked: no two identifiers are the same, and a divert's is the definition's
-  chosen-apart : Chosen .apart ≡ distinct (requestsOf ys)
+  all-apart : apartIn (joinedOf (columnOf (length ys) ys) p) ≡ distinct (openIdentifiers s ys)
+  all-apart = column-apart (length ys) ys p ∙ rw (take-length ys)
+
+  no-clash : clashIn Whole input ≡ false → true ≡ distinct (openIdentifiers s ys)
+  no-clash f = sym (four-clash (askedOf input) (length ys) 0 ys p f)
+
+  -- what is picked: no two identifiers are the same, and a request's is the definition's
+  chosen-apart : Chosen .apart ≡ distinct (openIdentifiers s ys)
   chosen-apart =
-      by-cases (Whole .clash)
+      by-cases (clashIn Whole input)
       (λ t. rw t all-apart)
-      (λ f. by-cases (diverts e) (λ d. rw (f, d) (no-clash f)) (λ d. rw (f, d) (no-clash f)))
+      (λ f. by-cases request (λ d. rw (f, d) (no-clash f)) (λ d. rw (f, d) (no-clash f)))
 
-  chosen-drawn : diverts e ≡ true → Chosen .identifier ≡ identifierFor s ys
-  chosen-drawn d = by-cases (Whole .clash) (λ t. rw t (column-drawn d)) (λ f. rw (f, d) (rw d at (column-drawn d)))
+  chosen-drawn : request ≡ true → Chosen .identifier ≡ identifierFor s ys
+  chosen-drawn d = by-cases (clashIn Whole input) (λ t. rw t (column-drawn d)) (λ f. rw (f, d) (rw d at (column-drawn d)))
 
   sees-table : Sees s ys e (seenBy input Whole (length ys) Chosen (at ys (placeSeen Whole input)))
   sees-table = record {
@@ -211,11 +223,11 @@ module _ (input : Input) (ys : List Call) where
   }
 
   -- the test behind number 1
-  tested : inBounds (length ys) (s .limit) (s .next) && Whole .sound && Chosen .apart ≡ sound s ys
+  tested : inBounds (length ys) s && Whole .sound && Chosen .apart ≡ sound s ys
   unfolding sound
   tested =
       rw (chosen-apart, survey-sound (askedOf input) (length ys) 0 ys)
-      (regroup (leb 1 (length ys) && leb (length ys) 64) (stationOk s) (all (soundCall (s .last)) ys) (distinct (requestsOf ys)))
+      (regroup (leb 1 (length ys) && leb (length ys) 64) (stationOk s) (all (soundCall (s .last)) ys) (distinct (openIdentifiers s ys)))
 
   short-is : decisionBy input Whole (length ys) Chosen (at ys (placeSeen Whole input)) ≡ decisionOn s ys e
   short-is = by-test s ys e (seenBy input Whole (length ys) Chosen (at ys (placeSeen Whole input))) sees-table same-place _ tested

@@ -3,11 +3,12 @@
 ghost use mathlib.Core.Path.{_≡_};
 ghost use Prim.Native.Nat.{_-_, _≤_, _<_};
 ghost use lib.ListN.{length};
-ghost use Rattle.call.specs.Incoming.{t1};
-ghost use Rattle.lent.specs.Lent.{askedOf, placeSeen, wantsColumn, apartWhere, fromColumn, asItStands, pickedOf, unchangedAs, changedAs, decisionBy, decisionOn};
+ghost use Rattle.timed.specs.Timed.{t1};
+ghost use Rattle.lent.specs.Lent.{askedOf, placeSeen, clashIn, wantsColumn, apartWhere, fromColumn, asItStands, pickedOf, unchangedAs, movedAs, changedAs, decisionBy, decisionOn};
 use call::Call;
 use call::Effect;
 use event::Event;
+use remote::Moved;
 use station::Answer;
 use station::Station;
 use survey::Asked;
@@ -29,13 +30,30 @@ pub struct Reply {
     pub station: Station,
 }
 
-// What goes out, and what becomes of the records: the one at `place` becomes `call`, or none changes where `count` is 0.
-#[repr(C)]
-pub struct Decision {
-    pub reply: Reply,
+// What becomes of the records: the one at `place` becomes `call`, or none changes where `count` is 0.
+pub struct Change {
     pub place: usize,
     pub count: usize,
     pub call: Call,
+}
+
+// What goes out, and what becomes of the records.
+pub struct Decision {
+    pub change: Change,
+    pub reply: Reply,
+}
+
+// The two parts of a decision.
+pub fn change_of(d: Decision) -> Change
+    ensures { λ r. ⌜ r ≡ d .change ⌝ }
+{
+    d.change
+}
+
+pub fn reply_of(d: Decision) -> Reply
+    ensures { λ r. ⌜ r ≡ d .reply ⌝ }
+{
+    d.reply
 }
 
 // What the open identifiers tell: that no two are the same, and the one that a request would take.
@@ -72,17 +90,27 @@ fn place_seen(v: Noted, input: Input) -> usize
     turn::place_of(e, v.free, v.due)
 }
 
-// The column of identifiers is needed where two marks are the same, and for a divert.
+// Whether two open requests have one mark, of calls or of the station's own.
+fn clash_in(v: Noted, input: Input) -> bool
+    ensures { λ r. ⌜ r ≡ clashIn v input ⌝ }
+{
+    let p = input.station.remote.pending;
+    let w = survey::with_four(v, p);
+    w.clash
+}
+
+// The column of identifiers is needed where two marks are the same, and for a request.
 fn wants_column(v: Noted, input: Input) -> bool
     ensures { λ r. ⌜ r ≡ wantsColumn v input ⌝ }
 {
-    let e = input.event;
-    v.clash | (e.kind == 6)
+    let kind = input.event.kind;
+    let clash = clash_in(v, input);
+    clash | ((kind == 6) | ((16 <= kind) & (kind <= 19)))
 }
 
 // Identifiers are compared only where two marks are the same.
-fn apart_where(clash: bool, held: &[u32; 64]) -> bool
-    requires { ⌜ length (now held) ≡ 64 ⌝ }
+fn apart_where(clash: bool, held: &[u32; 68]) -> bool
+    requires { ⌜ length (now held) ≡ 68 ⌝ }
     ensures { λ r. ⌜ r ≡ apartWhere clash (now (held .entry)) ⌝ }
 {
     if clash { table::apart(held) } else { true }
@@ -94,9 +122,11 @@ fn from_column(input: Input, v: Noted, held: [u32; 64]) -> Pick
 {
     let e = input.event;
     let next = input.station.next;
-    let clash = v.clash;
-    let apart = apart_where(clash, &held);
-    let identifier = notes::identifier_in(e, &held, next);
+    let p = input.station.remote.pending;
+    let clash = clash_in(v, input);
+    let all = notes::joined(&held, p);
+    let apart = apart_where(clash, &all);
+    let identifier = notes::identifier_in(e, &held, p, next);
     Pick {
         apart: apart,
         identifier: identifier,
@@ -126,7 +156,7 @@ fn picked(table: &[Call], n: usize, v: Noted, input: Input) -> Pick
     as_it_stands(input)
 }
 
-// No record changes, and the answer has no call.
+// Refused: no record changes.
 fn unchanged(code: u8, s: Station) -> Decision
     ensures { λ r. ⌜ r ≡ unchangedAs code s ⌝ }
 {
@@ -136,12 +166,29 @@ fn unchanged(code: u8, s: Station) -> Decision
         station: s,
     };
     let free = call::free_call();
-    Decision {
-        reply: reply,
+    let change = Change {
         place: 0,
         count: 0,
         call: free,
+    };
+    Decision {
+        change: change,
+        reply: reply,
     }
+}
+
+// Done on no record.
+fn moved(m: Moved, s: Station) -> Decision
+    ensures { λ r. ⌜ r ≡ movedAs m s ⌝ }
+{
+    let answer = turn::far_answer(m);
+    let reply = Reply {
+        answer: answer,
+        station: s,
+    };
+    let mut out = unchanged(0, s);
+    out.reply = reply;
+    out
 }
 
 // The record at i changes.
@@ -155,11 +202,14 @@ fn changed(i: usize, x: Effect, s: Station) -> Decision
         station: s,
     };
     let c = x.call;
-    Decision {
-        reply: reply,
+    let change = Change {
         place: i,
         count: 1,
         call: c,
+    };
+    Decision {
+        change: change,
+        reply: reply,
     }
 }
 
@@ -173,7 +223,7 @@ fn decided_on(input: Input, v: Noted, n: usize, p: Pick, c: Call) -> Decision
     let well = v.sound;
     let apart = p.apart;
     let identifier = p.identifier;
-    let fit = sound::in_bounds(n, s.limit, s.next);
+    let fit = sound::in_bounds(n, s);
     if !(fit & well & apart) {
         return unchanged(1, s);
     }
@@ -189,8 +239,9 @@ fn decided_on(input: Input, v: Noted, n: usize, p: Pick, c: Call) -> Decision
         Turn::Refused(code) => {
             return unchanged(code, s);
         }
-        Turn::NoneDue => {
-            return unchanged(0, turn::station_on(s, e, identifier));
+        Turn::Far => {
+            let m = follow::step(s.remote, e, identifier);
+            return moved(m, turn::station_far(s, e, identifier, m.remote));
         }
         Turn::Done => {
             let x = turn::acted(e, seen);

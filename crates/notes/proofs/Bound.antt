@@ -13,7 +13,7 @@ use Rattle.ground.specs.Choice.{when_then_else_}
 use Rattle.ground.specs.Lists.{all}
 use Rattle.call.specs.declared.Call.{Call}
 use Rattle.call.specs.Record.{freeCall, requested}
-use Rattle.call.specs.Incoming.{t1}
+use Rattle.timed.specs.Timed.{t1}
 use Rattle.notes.specs.declared.Notes.{Notes}
 use Rattle.notes.specs.Notes.{Kept, notesOf, atLeast, never, quietUntil, soonestOf, refreshedOf}
 use Rattle.notes.proofs.Kept.{notes, all-lower}

@@ -13,10 +13,11 @@ use lib.ListN.{length, getD, set, take, drop, replicate}
 use Rattle.ground.specs.Choice.{when_then_else_}
 use Rattle.ground.specs.Lists.{first, all, any}
 use Rattle.ground.proofs.Bools.{by-cases}
-use Rattle.identifier.specs.Identifier.{after, taken, firstFree}
+use Rattle.identifier.specs.Identifier.{after, taken}
 use Rattle.call.specs.declared.Call.{Call}
 use Rattle.call.specs.Record.{isFree, freeCall, requested}
-use Rattle.call.specs.Incoming.{t1, due}
+use Rattle.timed.specs.Timed.{t1}
+use Rattle.call.specs.Incoming.{due}
 use Rattle.station.specs.Table.{requestsOf}
 use Rattle.notes.specs.Mask.{maskOf, over}
 use Rattle.notes.specs.Notes.{heldBy, quietUntil, under, never, firstFreeIn, frees}
@@ -28,7 +29,7 @@ unfolding first
 first-same p f q h [] = refl
 first-same p f q h (y ∷ ys) = rw (h y, first-same p f q h ys)
 
-same-number : (n m : ℕ) → eqb (n + 1) (m + 1) ≡ eqb n m
+pub same-number : (n m : ℕ) → eqb (n + 1) (m + 1) ≡ eqb n m
 same-number n m = rw (add-one n, add-one m) (eqb·suc-suc n m)
 
 pub held-taken : (l : List Call) (n : ℕ) → any (eqb (n + 1)) (map heldBy l) ≡ taken (requestsOf l) n
@@ -40,12 +41,6 @@ held-taken (c ∷ cs) n = go (requested c) (held-taken cs n)
         → eqb (n + 1) (when b then c .identifier + 1 else 0) || any (eqb (n + 1)) (map heldBy cs) ≡ taken (when b then c .identifier ∷ requestsOf cs else requestsOf cs) n
     go true h = rw (same-number n (c .identifier), h)
     go false h = rw (ne-eqb (n + 1) 0 (λ e. omega arith), h)
-
--- the identifier found in the column is the one that the definition draws
-pub held-free : (k : ℕ) (l : List Call) (n : ℕ) → firstFreeIn k (map heldBy l) n ≡ firstFree k (requestsOf l) n
-unfolding firstFreeIn firstFree
-held-free zero l n = refl
-held-free (suc k) l n = rw (held-taken l n, held-free k l (after n))
 
 -- one candidate more
 pub free-step : (k j : ℕ) (held : List ℕ) (n : ℕ) → k ≡ suc j → any (eqb (n + 1)) held ≡ true → firstFreeIn k held n ≡ firstFreeIn j held (after n)

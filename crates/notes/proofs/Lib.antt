@@ -1,4 +1,5 @@
 pub mod Mask
 pub mod Kept
 pub mod Held
+pub mod Four
 pub mod Bound

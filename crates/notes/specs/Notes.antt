@@ -1,18 +1,22 @@
 -- What is noted of a table: free records, due times, open identifiers; and what a run keeps of that from event to event.
 use Prim.Native.Nat.{ℕ, zero, suc, _+_, _-_, min}
 use mathlib.Core.Path.{_≡_}
-use mathlib.Core.Bool.{Bool, true}
-use mathlib.Core.List.{List, [], _∷_, map}
+use mathlib.Core.Bool.{Bool, true, _||_}
+use mathlib.Core.List.{List, [], _∷_, _++_, map}
 use lib.ListN.{length, replicate}
 use lib.Dec.{ltb, leb, eqb}
 use Rattle.ground.specs.Choice.{when_then_else_}
 use Rattle.ground.specs.Lists.{all, any}
 use Rattle.event.specs.declared.Event.{Event}
 use Rattle.event.specs.Kinds.{diverts}
+use Rattle.event.specs.Remote.{asks}
 use Rattle.identifier.specs.Identifier.{after, candidates}
 use Rattle.call.specs.declared.Call.{Call}
-use Rattle.call.specs.Record.{freeCall, isFree, requested}
-use Rattle.call.specs.Incoming.{t1}
+use Rattle.call.specs.Record.{freeCall, isFree, requestOf, requested}
+use Rattle.remote.specs.declared.Pendings.{Pendings}
+use Rattle.remote.specs.Held.{timersOf}
+use Rattle.timed.specs.declared.Pending.{Pending}
+use Rattle.timed.specs.Timed.{waits, t1}
 use Rattle.notes.specs.declared.Notes.{Notes}
 use Rattle.notes.specs.Mask.{maskOf, over}
 
@@ -20,8 +24,19 @@ abbrev pub never : ℕ
 never = 18446744073709551615
 
 -- an open request's identifier plus 1; 0 where none is open
+abbrev pub heldOf : Pending → ℕ
+heldOf p = when waits p then p .identifier + 1 else 0
+
 abbrev pub heldBy : Call → ℕ
-heldBy c = when requested c then c .identifier + 1 else 0
+heldBy c = heldOf (requestOf c)
+
+-- those of the station's own requests
+abbrev pub fourOf : Pendings → List ℕ
+fourOf p = map (λ t. heldOf (t .request)) (timersOf p)
+
+-- a column of the calls' identifiers with those behind it: document 02, Seven: "These requests draw identifiers from the same station"
+abbrev pub joinedOf : List ℕ → Pendings → List ℕ
+joinedOf held p = held ++ fourOf p
 
 -- the last time at which a request isn't due yet, by T1
 abbrev pub quietUntil : Call → ℕ
@@ -51,9 +66,10 @@ firstFreeIn (suc more) held candidate =
     let later = firstFreeIn more held (after candidate) in
     when any (eqb (candidate + 1)) held then later else candidate
 
--- the identifier that the event's request takes from a column of those held; only a divert asks for one
-abbrev pub identifierIn : Event → List ℕ → ℕ → ℕ
-identifierIn e held next = when diverts e then firstFreeIn candidates held next else next
+-- the identifier that the event's request takes, from a column of those that calls hold and the station's own; only a divert and kinds 16
+-- to 19 ask for one
+abbrev pub identifierIn : Event → List ℕ → Pendings → ℕ → ℕ
+identifierIn e held p next = when diverts e || asks e then firstFreeIn candidates (joinedOf held p) next else next
 
 -- 64 free records: what counts past the table's end
 abbrev pub frees : List Call

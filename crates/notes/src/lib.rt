@@ -9,9 +9,11 @@ ghost use lib.Dec.{eqb};
 ghost use lib.Count.{trailingZeros};
 ghost use Rattle.ground.specs.Lists.{first, all};
 ghost use Rattle.notes.specs.Mask.{weigh, over};
-ghost use Rattle.notes.specs.Notes.{heldBy, quietUntil, atLeast, under, soonestOf, refreshedOf, frees, firstFreeIn, identifierIn, notesOf};
+ghost use Rattle.notes.specs.Notes.{heldOf, heldBy, joinedOf, quietUntil, atLeast, under, soonestOf, refreshedOf, frees, firstFreeIn, identifierIn, notesOf};
 use call::Call;
 use event::Event;
+use remote::Pendings;
+use timed::Pending;
 
 // T1 in milliseconds.
 pub const T1: u64 = 10000;
@@ -56,6 +58,17 @@ pub fn flip(mask: u64, i: usize, was: u8, is: u8) -> u64
 }
 
 // An open request's identifier plus 1; 0 where none is open.
+fn held_of(p: Pending) -> u32
+    ensures { λ r. ⌜ r ≡ heldOf p ⌝ }
+{
+    if p.wait == 1 {
+        (p.identifier as u32) + 1
+    } else {
+        0
+    }
+}
+
+// The same of a record.
 pub fn held_by(c: Call) -> u32
     ensures { λ r. ⌜ r ≡ heldBy c ⌝ }
 {
@@ -138,19 +151,37 @@ pub fn due_at(dues: &[u64; 64], soon: u64, time: u64) -> usize
     }
 }
 
-// "takes the first identifier from the next one on that no open request has": candidates in a row, each sought in the
-// column of the table's identifiers; left by label when a candidate is free.
-fn draw(held: &[u32; 64], next: u16) -> u16
+// A column of the calls' identifiers, with those of the station's own requests behind it.
+pub fn joined(held: &[u32; 64], p: Pendings) -> [u32; 68]
     requires { ⌜ length (now held) ≡ 64 ⌝ }
-    ensures { λ r. ⌜ r ≡ firstFreeIn 65 (now (held .entry)) next ⌝ }
+    ensures { λ r. ⌜ r ≡ joinedOf (now (held .entry)) p ⌝ }
+{
+    let mut all = [0u32; 68];
+    let mut i: usize = 0;
+    while i < 64 {
+        all[i] = held[i];
+        i += 1;
+    }
+    all[64] = held_of(p.activation);
+    all[65] = held_of(p.deactivation);
+    all[66] = held_of(p.interrogation);
+    all[67] = held_of(p.check);
+    all
+}
+
+// "takes the first identifier from the next one on that no open request has": candidates in a row, each sought in the
+// column of the identifiers held; left by label when a candidate is free.
+fn draw(held: &[u32; 68], next: u16) -> u16
+    requires { ⌜ length (now held) ≡ 68 ⌝ }
+    ensures { λ r. ⌜ r ≡ firstFreeIn 69 (now (held .entry)) next ⌝ }
 {
     let mut candidate = next;
     let mut tries: usize = 0;
-    'candidate: while tries < 65 {
+    'candidate: while tries < 69 {
         let wanted = (candidate as u32) + 1;
         let mut i: usize = 0;
         loop {
-            if i >= 64 {
+            if i >= 68 {
                 break 'candidate;
             }
             if held[i] == wanted {
@@ -164,12 +195,18 @@ fn draw(held: &[u32; 64], next: u16) -> u16
     candidate
 }
 
-// The identifier that the event's request takes, from the column of those held; only a divert asks for one.
-pub fn identifier_in(e: Event, held: &[u32; 64], next: u16) -> u16
+// The identifier that the event's request takes, from the column of those that calls hold and the station's own; only a divert and
+// kinds 16 to 19 ask for one.
+pub fn identifier_in(e: Event, held: &[u32; 64], p: Pendings, next: u16) -> u16
     requires { ⌜ length (now held) ≡ 64 ⌝ }
-    ensures { λ r. ⌜ r ≡ identifierIn e (now (held .entry)) next ⌝ }
+    ensures { λ r. ⌜ r ≡ identifierIn e (now (held .entry)) p next ⌝ }
 {
-    if e.kind == 6 { draw(held, next) } else { next }
+    let kind = e.kind;
+    if (kind == 6) | ((16 <= kind) & (kind <= 19)) {
+        let all = joined(held, p);
+        return draw(&all, next);
+    }
+    next
 }
 
 // What is kept of the first len records.

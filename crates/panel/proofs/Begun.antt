@@ -12,4 +12,4 @@ use Rattle.board.specs.Board.{soundBoard}
 use Rattle.panel.specs.Play.{startBoard}
 
 pub start-sound : soundBoard startBoard ≡ true
-start-sound = is-true (sound (freshStation 15) (replicate 64 freeCall)) (fresh-sound 15 64 tt (lit≤ tt) (lit≤ tt))
+start-sound = is-true (sound (freshStation 15 1 1) (replicate 64 freeCall)) (fresh-sound 15 1 1 64 tt (lit≤ tt) (lit≤ tt))

@@ -7,13 +7,14 @@ use Rattle.event.specs.declared.Event.{Event}
 use Rattle.event.specs.Record.{eventAt}
 use Rattle.call.specs.declared.Call.{Call}
 use Rattle.call.specs.declared.Effect.{Effect}
+use Rattle.remote.specs.declared.Moved.{Moved}
 use Rattle.station.specs.declared.Station.{Station}
 use Rattle.station.specs.declared.Answer.{Answer}
 use Rattle.station.specs.Station.{emptyAnswer}
-use Rattle.station.specs.Step.{answerOf}
+use Rattle.station.specs.Step.{answerOf, farAnswer}
 use Rattle.board.specs.declared.Board.{Board}
 use Rattle.board.specs.Board.{Stepped, stepSoundBoard}
-use Rattle.board.proofs.Boards.{refusedBoard, doneBoard, noneDueBoard}
+use Rattle.board.proofs.Boards.{refusedBoard, doneBoard, farBoard}
 use Rattle.board.proofs.Beside.{boardNow}
 use Rattle.board.proofs.Steps.{tested-step}
 use Rattle.printout.specs.Line.{line}
@@ -33,10 +34,10 @@ module _ (b : Board) (position : ℕ) (bytes old : List ℕ) (n : ℕ) (s : Stat
       → Playing b position bytes old n (boardNow b s calls) out′ at′ (k + 1)
   playing-refused code out′ at′ p a g t m r l = by-step (refusedBoard (boardNow b s calls) code) out′ at′ p a g t m r l
 
-  pub playing-none : (s′ : Station) (out′ : List ℕ) (at′ : ℕ) → noneDueBoard (boardNow b s calls) s′ ≡ stepSoundBoard (boardNow b s calls) e
-      → (a : Answer) → a ≡ emptyAnswer 0 → Written (line (position + k) a) at out out′ at′ → at′ ≤ at + 67 → n * 96 ≤ length old → length out′ ≡ length out
+  pub playing-far : (s′ : Station) (y : Moved) (out′ : List ℕ) (at′ : ℕ) → farBoard (boardNow b s calls) (farAnswer y) s′ ≡ stepSoundBoard (boardNow b s calls) e
+      → (a : Answer) → a ≡ farAnswer y → Written (line (position + k) a) at out out′ at′ → at′ ≤ at + 67 → n * 96 ≤ length old → length out′ ≡ length out
       → Playing b position bytes old n (boardNow b s′ calls) out′ at′ (k + 1)
-  playing-none s′ out′ at′ p a g t m r l = by-step (noneDueBoard (boardNow b s calls) s′) out′ at′ p a g t m r l
+  playing-far s′ y out′ at′ p a g t m r l = by-step (farBoard (boardNow b s calls) (farAnswer y) s′) out′ at′ p a g t m r l
 
   pub playing-done : (i : ℕ) (s′ : Station) (x : Effect) (out′ : List ℕ) (at′ : ℕ)
       → doneBoard (boardNow b s calls) s′ i x ≡ stepSoundBoard (boardNow b s calls) e

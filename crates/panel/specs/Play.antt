@@ -7,6 +7,7 @@ use lib.ListN.{length, replicate}
 use Rattle.event.specs.declared.Event.{Event}
 use Rattle.event.specs.Record.{eventsFrom}
 use Rattle.call.specs.Record.{freeCall}
+use Rattle.notice.specs.Notice.{marked}
 use Rattle.station.specs.Station.{freshStation}
 use Rattle.board.specs.declared.Board.{Board}
 use Rattle.board.specs.Board.{tableOf, soundBoard, stepBoard}
@@ -16,7 +17,7 @@ use Rattle.panel.specs.declared.Played.{Played}
 
 -- "starts with 64 free records and a fresh station of limit 15"
 abbrev pub startBoard : Board
-startBoard = record { station = freshStation 15; len = 64; calls = replicate 64 freeCall }
+startBoard = record { station = freshStation 15 marked marked; len = 64; calls = replicate 64 freeCall }
 
 -- the board that a list of events leaves
 unfoldable pub boardAfter : Board → List Event → Board

@@ -18,11 +18,11 @@ pub struct Played {
     pub written: usize,
 }
 
-// 64 free records and a fresh station of limit 15.
+// 64 free records and a fresh station of limit 15 with both marks.
 pub fn start() -> Board
     ensures { λ r. ⌜ r ≡ startBoard ⌝ }
 {
-    let made = station::fresh(15);
+    let made = station::fresh(15, 1, 1);
     let station = made.station;
     let free = call::free_call();
     let calls = [free; 64];
@@ -61,7 +61,7 @@ pub fn play(b: Board, position: u64, bytes: &[u8], out: &mut [u8]) -> Played
         let place = board::place_on(e, free, soon, &dues);
         let i = board::within(place, len);
         let c = calls[i];
-        let identifier = notes::identifier_in(e, &held, s.next);
+        let identifier = notes::identifier_in(e, &held, s.remote.pending, s.next);
         let seen = Seen {
             len: len,
             place: place,
@@ -74,10 +74,11 @@ pub fn play(b: Board, position: u64, bytes: &[u8], out: &mut [u8]) -> Played
                 let answer = station::empty_answer(code);
                 at = printout::write_line(out, at, position + k as u64, answer);
             }
-            Turn::NoneDue => {
+            Turn::Far => {
                 soon = notes::refresh(soon, &dues, e.time);
-                s = turn::station_on(s, e, identifier);
-                let answer = station::empty_answer(0);
+                let m = follow::step(s.remote, e, identifier);
+                s = turn::station_far(s, e, identifier, m.remote);
+                let answer = turn::far_answer(m);
                 at = printout::write_line(out, at, position + k as u64, answer);
             }
             Turn::Done => {

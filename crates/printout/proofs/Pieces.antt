@@ -14,7 +14,7 @@ use Rattle.notice.specs.Notice.{noNotice, noNumber}
 use Rattle.call.specs.Messages.{noIdentifier, noCounter}
 use Rattle.station.specs.declared.Answer.{Answer}
 use Rattle.station.specs.Station.{noCall}
-use Rattle.printout.specs.Line.{decimal, space, newline, dash, column, letterWithLeg, messages, line}
+use Rattle.printout.specs.Line.{decimal, legText, space, newline, dash, column, letterWithLeg, messages, line}
 use Rattle.printout.specs.Written.{Written}
 use Rattle.printout.proofs.Texts.{and-then, in-three}
 
@@ -31,9 +31,12 @@ module _ (at : ℕ) (old mid new : List ℕ) (next r : ℕ) (room : at + 21 ≤ 
     column-some e p q = rw (ne-eqb n none e) (and-then p q (omega (arith, p .next)))
 
   module _ (letter leg : ℕ) where
-    pub lettered : (letter ≡ 0 → ⊥) → Written (letter ∷ []) at old mid next → Written (decimal leg) next mid new r
-        → Written (when eqb letter 0 then [] else letter ∷ decimal leg) at old new r
+    pub lettered : (letter ≡ 0 → ⊥) → Written (letter ∷ []) at old mid next → Written (legText leg) next mid new r
+        → Written (when eqb letter 0 then [] else letter ∷ legText leg) at old new r
     lettered e p q = rw (ne-eqb letter 0 e) (and-then p q (omega (arith, p .next)))
+
+pub legged : (at leg : ℕ) (old new : List ℕ) (r : ℕ) → (leg ≡ 0 → ⊥) → Written (decimal leg) at old new r → Written (legText leg) at old new r
+legged at leg old new r e w = rw (ne-eqb leg 0 e) w
 
 pub unlettered : (at letter : ℕ) (more old : List ℕ) → letter ≡ 0 → Written (when eqb letter 0 then [] else more) at old old at
 unlettered at letter more old e = rw (eq-eqb letter 0 e) (unwritten at old)

@@ -9,6 +9,7 @@ use Rattle.event.specs.declared.Event.{Event}
 use Rattle.event.specs.Kinds.{unknown, cfu, noNotification, withNumber, allowed, CONNECT, OpenOutgoing, OpenIncoming, OpenWithDli2, DivertCall, ReroutingResult, Clock, ReroutingInvoke, OutgoingMessage}
 use Rattle.call.specs.declared.Call.{Call}
 use Rattle.call.specs.Record.{freeCall}
+use Rattle.notice.specs.Notice.{marked}
 use Rattle.station.specs.Station.{freshStation}
 use Rattle.printout.specs.Line.{printed}
 
@@ -57,7 +58,7 @@ divertedAt counter = event OpenWithDli2 0 0 0 unknown 0 counter 0 0 101 102 0 1 
 
 -- the lines that a fresh station of limit 15 prints on so many free records
 abbrev pub linesOn : ℕ → List Event → List (List ℕ)
-linesOn records events = printed 0 (freshStation 15) (replicate records freeCall) events
+linesOn records events = printed 0 (freshStation 15 marked marked) (replicate records freeCall) events
 
 -- the one list of the cases marked P
 abbrev pub casesP : List (List ℕ)

@@ -10,6 +10,7 @@ use Rattle.call.specs.declared.Call.{Call}
 use Rattle.call.specs.declared.Message.{Message}
 use Rattle.call.specs.declared.Sent.{Sent}
 use Rattle.call.specs.Messages.{noIdentifier, noCounter, noLetter}
+use Rattle.remote.specs.Kinds.{noLeg}
 use Rattle.station.specs.declared.Station.{Station}
 use Rattle.station.specs.declared.Answer.{Answer}
 use Rattle.station.specs.Station.{noCall}
@@ -43,9 +44,13 @@ decimal n = digits 20 n
 abbrev pub column : ℕ → ℕ → List ℕ
 column none n = when eqb n none then dash else decimal n
 
+-- document 02, Seven: "a, d, i, c for the invokes, r and e for answers, no leg"
+abbrev pub legText : ℕ → List ℕ
+legText leg = when eqb leg noLeg then [] else decimal leg
+
 -- "Letters, with leg"
 abbrev pub letterWithLeg : Message → List ℕ
-letterWithLeg m = when eqb (m .letter) noLetter then [] else m .letter ∷ decimal (m .leg)
+letterWithLeg m = when eqb (m .letter) noLetter then [] else m .letter ∷ legText (m .leg)
 
 abbrev pub messages : Sent → List ℕ
 messages sent =

@@ -9,6 +9,7 @@ use Rattle.event.specs.Record.{eventsFrom}
 use Rattle.call.specs.declared.Call.{Call}
 use Rattle.call.specs.Record.{freeCall}
 use Rattle.station.specs.declared.Station.{Station}
+use Rattle.notice.specs.Notice.{marked}
 use Rattle.station.specs.Station.{freshStation}
 use Rattle.printout.specs.Line.{cutLine, printed}
 
@@ -25,6 +26,6 @@ abbrev pub cutText : ℕ → List ℕ
 cutText count = when eqb count 0 then [] else cutLine count
 
 -- "reads event records from standard input, starts with 64 free records and a fresh station of limit 15, and prints a line each:
--- position from 0"
+-- position from 0"; document 02, Seven: "short form and `panelrun`: both set"
 unfoldable pub panelText : List ℕ → List ℕ
-panelText bytes = linesText 0 (freshStation 15) (replicate 64 freeCall) (wholeEvents bytes) ++ cutText (length bytes % 24)
+panelText bytes = linesText 0 (freshStation 15 marked marked) (replicate 64 freeCall) (wholeEvents bytes) ++ cutText (length bytes % 24)

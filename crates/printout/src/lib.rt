@@ -4,7 +4,7 @@ ghost use Prim.Native.Nat.{_+_, _/_, _%_, _<_, _≤_};
 ghost use lib.ListN.{length};
 ghost use lib.Dec.{eqb};
 ghost use Rattle.ground.specs.Choice.{when_then_else_};
-ghost use Rattle.printout.specs.Line.{digit, decimal, space, newline, column, messages, line, cutLine};
+ghost use Rattle.printout.specs.Line.{digit, decimal, space, newline, column, legText, messages, line, cutLine};
 ghost use Rattle.notice.specs.Notice.{noNotice, noNumber};
 ghost use Rattle.call.specs.Messages.{noIdentifier, noCounter, noLetter};
 ghost use Rattle.station.specs.Station.{noCall};
@@ -80,17 +80,29 @@ fn write_shown(out: &mut [u8], at: usize, call: u8, notice: u8, number: u16) -> 
     write_column(out, behind_notice, 0, number as u64)
 }
 
+// A leg; 0 is none.
+fn write_leg(out: &mut [u8], at: usize, leg: u8) -> usize
+    requires { ⌜ at + 20 ≤ length (now out) ⌝ }
+    ensures { λ r. ⌜ Written (legText leg) at (now (out .entry)) (now (out .exit)) r ⌝ }
+    ensures { λ r. ⌜ r ≤ at + 3 ⌝ }
+{
+    if leg == 0 {
+        return at;
+    }
+    write_decimal(out, at, leg as u64)
+}
+
 // A message's letter with its leg; a letter of 0 is no message.
 fn write_message(out: &mut [u8], at: usize, letter: u8, leg: u8) -> usize
     requires { ⌜ at + 21 ≤ length (now out) ⌝ }
-    ensures { λ r. ⌜ Written (when eqb letter noLetter then [] else letter ∷ decimal leg) at (now (out .entry)) (now (out .exit)) r ⌝ }
+    ensures { λ r. ⌜ Written (when eqb letter noLetter then [] else letter ∷ legText leg) at (now (out .entry)) (now (out .exit)) r ⌝ }
     ensures { λ r. ⌜ r ≤ at + 4 ⌝ }
 {
     if letter == 0 {
         return at;
     }
     let next = put(out, at, letter);
-    write_decimal(out, next, leg as u64)
+    write_leg(out, next, leg)
 }
 
 // The messages, or a dash for none.

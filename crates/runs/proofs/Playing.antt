@@ -9,11 +9,13 @@ use Rattle.event.specs.declared.Event.{Event}
 use Rattle.event.specs.Record.{eventAt}
 use Rattle.call.specs.declared.Call.{Call}
 use Rattle.call.specs.declared.Effect.{Effect}
+use Rattle.remote.specs.declared.Moved.{Moved}
 use Rattle.station.specs.declared.Station.{Station}
+use Rattle.station.specs.Step.{farAnswer}
 use Rattle.notes.specs.declared.Notes.{Notes}
 use Rattle.board.specs.declared.Board.{Board}
 use Rattle.board.specs.Board.{stepSoundBoard}
-use Rattle.board.proofs.Boards.{refusedBoard, doneBoard, noneDueBoard}
+use Rattle.board.proofs.Boards.{refusedBoard, doneBoard, farBoard}
 use Rattle.board.proofs.Beside.{Beside, boardNow}
 use Rattle.runs.specs.declared.Ran.{Ran}
 use Rattle.runs.specs.Run.{ran, runFirst}
@@ -38,12 +40,12 @@ module _ (b : Board) (bytes : List ℕ) (calls : List Call) (s : Station) (d : N
     so-far = rw (ne-eqb code 0 (h .0)) at (run-step stepSoundBoard b bytes k now e (refusedBoard (boardNow b s calls) code) (w .so-far) q (h .1));
   }
 
-  pub playing-none : (d′ : Notes) (s′ : Station) → Beside (b .len) calls d′ → noneDueBoard (boardNow b s calls) s′ ≡ stepSoundBoard (boardNow b s calls) e
+  pub playing-far : (d′ : Notes) (s′ : Station) (m : Moved) → Beside (b .len) calls d′ → farBoard (boardNow b s calls) (farAnswer m) s′ ≡ stepSoundBoard (boardNow b s calls) e
       → Playing b bytes calls s′ d′ (done + 1) refused (k + 1)
-  playing-none d′ s′ u h = record {
+  playing-far d′ s′ m u h = record {
     beside = u;
     count = omega (arith, w .count);
-    so-far = run-step stepSoundBoard b bytes k now e (noneDueBoard (boardNow b s calls) s′) (w .so-far) q h;
+    so-far = run-step stepSoundBoard b bytes k now e (farBoard (boardNow b s calls) (farAnswer m) s′) (w .so-far) q h;
   }
 
   pub playing-done : (d′ : Notes) (i : ℕ) (s′ : Station) (x : Effect) → Beside (b .len) (set calls i (x .call)) d′

@@ -40,7 +40,7 @@ fn run_tested(b: Board, events: &[u8]) -> Ran
         let place = board::place_on(e, free, soon, &dues);
         let i = board::within(place, len);
         let c = calls[i];
-        let identifier = notes::identifier_in(e, &held, s.next);
+        let identifier = notes::identifier_in(e, &held, s.remote.pending, s.next);
         let seen = Seen {
             len: len,
             place: place,
@@ -52,9 +52,10 @@ fn run_tested(b: Board, events: &[u8]) -> Ran
             Turn::Refused(_) => {
                 refused += 1;
             }
-            Turn::NoneDue => {
+            Turn::Far => {
                 soon = notes::refresh(soon, &dues, e.time);
-                s = turn::station_on(s, e, identifier);
+                let m = follow::step(s.remote, e, identifier);
+                s = turn::station_far(s, e, identifier, m.remote);
                 done += 1;
             }
             Turn::Done => {

@@ -9,6 +9,7 @@ ghost use Rattle.sound.specs.Cases.{divertedBy, requestBy, incomingBase,
 ghost use Rattle.sound.specs.Words.{legsWord, partyWord, codesWord, numbersWord};
 use call::Call;
 use notice::History;
+use station::Station;
 
 // Fields that lie side by side in memory, as one number: the compiler reads it by one load. CDO and CDR.
 fn legs_word(c: Call) -> u64
@@ -255,9 +256,13 @@ pub fn sound_call(c: Call, last: u64) -> bool
     }
 }
 
-// "1 to 64 call records", a limit of 1 to 15, and a next identifier that is not 0.
-pub fn in_bounds(len: usize, limit: u8, next: u16) -> bool
-    ensures { λ r. ⌜ r ≡ inBounds len limit next ⌝ }
+// The table's length and the station are as they may be: the test behind number 1, but for the records.
+pub fn in_bounds(len: usize, s: Station) -> bool
+    ensures { λ r. ⌜ r ≡ inBounds len s ⌝ }
 {
-    (1 <= len) & (len <= 64) & ((1 <= limit) & (limit <= 15) & !(next == 0))
+    let remote = s.remote;
+    let limit = s.limit;
+    let next = s.next;
+    let held = follow::remote_holds(s.last, remote);
+    ((1 <= len) & (len <= 64)) & (((1 <= limit) & (limit <= 15)) & !(next == 0) & held)
 }

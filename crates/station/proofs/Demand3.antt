@@ -10,7 +10,8 @@ use Rattle.ground.specs.Lists.{all}
 use Rattle.ground.proofs.Bools.{and-l, and-r, by-cases, from-true, from-false, when-has}
 use Rattle.ground.proofs.Pointwise.{set-rel}
 use Rattle.event.specs.declared.Event.{Event}
-use Rattle.event.specs.WellMade.{wellMade}
+use Rattle.event.specs.WellMade.{wellMade, callMade}
+use Rattle.event.specs.Remote.{ofRemote}
 use Rattle.notice.specs.Stricter.{agreed}
 use Rattle.call.specs.declared.Call.{Call}
 use Rattle.call.specs.declared.Effect.{Effect}
@@ -23,10 +24,10 @@ use Rattle.station.specs.declared.Answer.{Answer}
 use Rattle.station.specs.Station.{emptyAnswer}
 use Rattle.station.specs.Table.{sound, identifierFor, place}
 use Rattle.station.specs.Refusals.{notSound, early, refusalOnSound, refusal}
-use Rattle.station.specs.Step.{Outcome, refused, noneDue, effectAt, doneAt, done, byNumber, step, turns, outcomes}
-use Rattle.station.proofs.Kept.{step-sound}
+use Rattle.station.specs.Step.{Outcome, refused, effectAt, doneAt, onCall, farAnswer, farMoved, farDone, done, byNumber, step, turns, outcomes}
+use Rattle.station.proofs.Kept.{step-sound, call-made}
 use Rattle.station.specs.Demand3.{StricterAnswer, SameStates, StricterOutcome, RunsStricter, acts}
-use Rattle.station.proofs.Shared.{same-states, at-stricter, place-same, identifier-same, station-same, refusal-same, acts-same}
+use Rattle.station.proofs.Shared.{same-states, at-stricter, place-same, identifier-same, station-same, with-same, far-same, refusal-same, acts-same}
 
 -- An event that acts on a record, and one that doesn't.
 inner : {A : Type 0} (a b : Bool) (x y z : A) → T (a && b) → (when a then when b then x else y else z) ≡ x
@@ -42,16 +43,18 @@ outer false b x y z t = refl
 module _ (s : Station) (calls : List Call) (e : Event) where
   pub step-acts : T (acts s calls e) → step s calls e ≡ doneAt s calls e (place calls e) (effectAt s calls e (place calls e))
   unfolding step byNumber done
-  step-acts t = inner (eqb (refusal s calls e) 0) (ltb (place calls e) (length calls)) _ _ _ t
+  step-acts t = inner (eqb (refusal s calls e) 0) (onCall calls e) _ _ _ t
 
-  pub step-idle : T (not (acts s calls e)) → step s calls e ≡ (when eqb (refusal s calls e) 0 then noneDue s calls e else refused s calls (refusal s calls e))
+  pub step-idle : T (not (acts s calls e)) → step s calls e ≡ (when eqb (refusal s calls e) 0 then farDone s calls e (farMoved s calls e) else refused s calls (refusal s calls e))
   unfolding step byNumber done
-  step-idle t = outer (eqb (refusal s calls e) 0) (ltb (place calls e) (length calls)) _ _ _ t
+  step-idle t = outer (eqb (refusal s calls e) 0) (onCall calls e) _ _ _ t
 
-  pub idle-answer : T (not (acts s calls e)) → step s calls e .answer ≡ emptyAnswer (refusal s calls e)
-  idle-answer t =
-      let code : ℕ = refusal s calls e in
-      rw (step-idle t) (when-has (λ (o : Outcome). o .answer ≡ emptyAnswer code) (eqb code 0) (λ y. ap emptyAnswer (sym (eqb→eq code 0 y))) (λ n. refl))
+  -- its answer: what the station's own part says, or the number
+  abbrev pub idleAnswer : Answer
+  idleAnswer = when eqb (refusal s calls e) 0 then farAnswer (farMoved s calls e) else emptyAnswer (refusal s calls e)
+
+  pub idle-answer : T (not (acts s calls e)) → step s calls e .answer ≡ idleAnswer
+  idle-answer t = rw (step-idle t) (by-cases (eqb (refusal s calls e) 0) (λ y. rw y) (λ n. rw n))
 
   pub idle-calls : T (not (acts s calls e)) → step s calls e .calls ≡ calls
   idle-calls t = rw (step-idle t) (when-has (λ (o : Outcome). o .calls ≡ calls) (eqb (refusal s calls e) 0) (λ y. refl) (λ n. refl))
@@ -84,18 +87,21 @@ module _ (s : Station) {t t' : List Call} {e e' : Event} (q : Forall₂ Stricter
     calls = set-rel i q (z .call);
   }
 
-  effect-rel : (i : ℕ) → T (wellMade e) → StricterEffect (effectAt s t e i) (effectAt s t' e' i)
+  effect-rel : (i : ℕ) → T (callMade e) → StricterEffect (effectAt s t e i) (effectAt s t' e' i)
   effect-rel i made = rw (identifier-same q s) (act-rel (identifierFor s t) (at-stricter q i) p made)
 
-  idle-rel : (code : ℕ) → StricterStep (when eqb code 0 then noneDue s t e else refused s t code) (when eqb code 0 then noneDue s t' e' else refused s t' code)
+  idle-rel : (code : ℕ) → StricterStep (when eqb code 0 then farDone s t e (farMoved s t e) else refused s t code) (when eqb code 0 then farDone s t' e' (farMoved s t' e') else refused s t' code)
   idle-rel code =
-      when-keeps StricterStep (eqb code 0) (λ z. record { answer = answer-alike _; station = station-same q s (framed-of p); calls = q })
-      (record { answer = answer-alike _; station = refl; calls = q })
+      rw (far-same q s p)
+      (when-keeps StricterStep (eqb code 0) {x = farDone s t e (farMoved s t e)} {x' = farDone s t' e' (farMoved s t e)}
+      (λ z. record { answer = answer-alike _; station = with-same q s (farMoved s t e .remote) (framed-of p); calls = q })
+      (record { answer = answer-alike _; station = refl; calls = q }))
 
   -- the two runs act on a record at the same events, and on the same
   acting : T (acts s t e) → T (acts s t' e') → StricterStep (step s t e) (step s t' e')
   acting u u' =
-      let made : T (wellMade e) = done-made s t e (search and-l) in
+      let near : T (not (ofRemote e)) = search (and-l, and-r) in
+      let made : T (callMade e) = call-made e near (done-made s t e (search and-l)) in
       rw (step-acts s t e u, step-acts s t' e' u', place-same q (framed-of p)) (done-at-rel (place t e) (effect-rel (place t e) made))
 
   idling : T (sound s t) → T (sound s t') → T (not (acts s t e)) → T (not (acts s t' e')) → StricterStep (step s t e) (step s t' e')

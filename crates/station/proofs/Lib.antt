@@ -4,7 +4,6 @@ pub mod Demand1
 pub mod Whole
 pub mod Requests
 pub mod Places
-pub mod Lowest
 pub mod Addressed
 pub mod Named
 pub mod Asking
@@ -16,4 +15,6 @@ pub mod Shared
 pub mod Demand3
 pub mod Lives
 pub mod Told
+pub mod Far
+pub mod FarRequests
 pub mod There

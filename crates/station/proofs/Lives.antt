@@ -23,7 +23,7 @@ use Rattle.station.specs.Table.{at, sound, identifierFor, place}
 use Rattle.station.specs.Step.{effectAt, step, turn, turns}
 use Rattle.station.proofs.Kept.{step-sound}
 use Rattle.station.specs.Demand3.{tightened, acts, touchedBy, touchedAfter, WholeAnswers, over, onward, untouched, LivesEqual}
-use Rattle.station.proofs.Shared.{place-same, identifier-same, refusal-same, acts-same}
+use Rattle.station.proofs.Shared.{place-same, identifier-same, refusal-same, acts-same, far-same}
 use Rattle.station.proofs.Demand3.{step-acts, idle-answer, idle-calls, step-rel, sound-stricter}
 
 -- an event that was not tightened is the same
@@ -78,7 +78,7 @@ module _ (touched : ℕ → Bool) (s : Station) {t t' : List Call} {e e' : Event
 
     -- an event that acts on no record has the same answer in any case
     idle-same : T (not (acts s t e)) → T (not (acts s t' e')) → step s t' e' .answer ≡ step s t e .answer
-    idle-same u u' = idle-answer s t' e' u' ∙ ap emptyAnswer (refusal-same q s a b p) ∙ sym (idle-answer s t e u)
+    idle-same u u' = idle-answer s t' e' u' ∙ (rw (refusal-same q s a b p, far-same q s p) (sym (idle-answer s t e u)))
 
     answer-same : T (not (acts s t e && touchedBy touched t e e')) → step s t' e' .answer ≡ step s t e .answer
     answer-same n =

@@ -3,18 +3,21 @@ use Prim.Native.Nat.{ℕ, zero, suc, _≤_, _<_}
 use native.Mathlib.Nat.{le-of-suc-le-suc, not-suc-le-zero}
 use native.Mathlib.Omega.{arith}
 use mathlib.Core.Path.{_≡_, refl, sym}
-use mathlib.Core.Bool.{Bool, true, false, not}
+use mathlib.Core.Bool.{Bool, true, false, not, _&&_}
 use mathlib.Core.List.{List, [], _∷_}
-use lib.Dec.{T, T-not, nltb→le}
+use lib.Dec.{T, eqb, T-not, nltb→le}
 use lib.ListN.{getD}
 use Rattle.ground.specs.Choice.{when_then_else_}
-use Rattle.ground.proofs.Bools.{not-not}
+use Rattle.ground.proofs.Bools.{not-not, nor-l, nor-r}
 use Rattle.event.specs.declared.Event.{Event}
 use Rattle.event.specs.WellMade.{wellMade}
+use Rattle.event.specs.Kinds.{answersRequest}
 use Rattle.call.specs.declared.Call.{Call}
+use Rattle.call.specs.State.{stateForbids}
+use Rattle.remote.specs.Rules.{alreadyAsked, noneWaits, otherAnswer}
 use Rattle.station.specs.declared.Station.{Station}
 use Rattle.station.specs.Table.{at, sound}
-use Rattle.station.specs.Refusals.{noSuchCall, notTaken, otherIdentifier, overLimit, noFreeRecord, refusalOnSound, refusal}
+use Rattle.station.specs.Refusals.{noSuchCall, overLimit, noFreeRecord, refusalOnSound, refusal}
 use Rattle.station.specs.Demand1.{conditions, Given}
 
 -- a cascade of conditions: the first that holds gives its number, counted on from one
@@ -73,13 +76,18 @@ pub record Passed (s : Station) (calls : List Call) (e : Event) : Type 0 where
   pub timely : s .last ≤ e .time
   pub made : T (wellMade e)
   pub named : T (not (noSuchCall calls e))
-  pub taken : T (not (notTaken calls e))
-  pub identified : T (not (otherIdentifier (at calls (e .call)) e))
+  pub taken : T (not (stateForbids (at calls (e .call)) e))
+  pub awaited : T (not (noneWaits (s .remote) e))
+  pub identified : T (not (answersRequest e && not (eqb (e .identifier) (at calls (e .call) .identifier))))
+  pub bearing : T (not (otherAnswer (s .remote) e))
   pub within : T (not (overLimit s (at calls (e .call)) e))
   pub room : T (not (noFreeRecord calls e))
+  pub unasked : T (not (alreadyAsked (s .remote) e))
 
 pub passed : (s : Station) (calls : List Call) (e : Event) → refusal s calls e ≡ 0 → Passed s calls e
 passed s calls e q =
+    let c = at calls (e .call) in
+    let other = answersRequest e && not (eqb (e .identifier) (c .identifier)) in
     let g : Given (conditions s calls e) 0 = rw (sym (refusal-numbered s calls e), q) at (given (conditions s calls e)) in
     record {
       number = q;
@@ -87,8 +95,11 @@ passed s calls e q =
       timely = nltb→le (e .time) (s .last) (g 1);
       made = not-not (wellMade e) (g 2);
       named = g 3;
-      taken = g 4;
-      identified = g 5;
+      taken = nor-l (stateForbids c e) (noneWaits (s .remote) e) (g 4);
+      awaited = nor-r (stateForbids c e) (noneWaits (s .remote) e) (g 4);
+      identified = nor-l other (otherAnswer (s .remote) e) (g 5);
+      bearing = nor-r other (otherAnswer (s .remote) e) (g 5);
       within = g 6;
       room = g 7;
+      unasked = g 8;
     }

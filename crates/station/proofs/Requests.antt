@@ -1,143 +1,149 @@
--- The open requests of a table by their places, and the identifier that the next one takes. Assumes nothing.
-use Prim.Native.Nat.{ℕ, zero, suc, _≤_, _<_, zero-le, suc-le-suc}
+-- The open requests of a station and its table by their places, and the identifier that the next one takes. Assumes nothing.
+use Prim.Native.Nat.{ℕ, zero, suc, _≤_, _<_}
 use native.Mathlib.Omega.{arith}
 use mathlib.Core.Path.{_≡_, refl, ap, sym}
-use mathlib.Core.Bool.{Bool, true, false, not, _||_}
+use mathlib.Core.Bool.{true, false, not}
 use mathlib.Core.List.{List, [], _∷_, _++_}
 use lib.Dec.{T, eqb, eqb→eq, leb→le, T-not, not-T}
-use lib.ListN.{length, set}
+use lib.ListN.{length, getD, set, length-append}
 use Rattle.ground.specs.Choice.{when_then_else_}
-use Rattle.ground.specs.Lists.{any}
-use Rattle.ground.proofs.Bools.{or-inl, or-inr, or-left, eq→eqb, is-true, from-true, when-has}
+use Rattle.ground.proofs.Bools.{eq→eqb}
+use Rattle.ground.proofs.Lowest.{within}
 use Rattle.identifier.specs.Identifier.{taken, distinct}
 use Rattle.identifier.proofs.Pigeon.{crowded}
 use Rattle.identifier.proofs.Draw as draw
-use Rattle.identifier.proofs.Gathered.{distinct-set}
-use Rattle.identifier.proofs.Reading.{head-apart, tail-distinct, distinct-cons}
+use Rattle.identifier.proofs.Joined.{taken-left, taken-right, taken-either, distinct-left, distinct-right, distinct-joined, parts-apart}
+use Rattle.identifier.proofs.Holders as holders
+use Rattle.timed.specs.declared.Pending.{Pending}
+use Rattle.timed.specs.Timed.{waits, Timer, waiting, noTimer, identifiersOf}
 use Rattle.call.specs.declared.Call.{Call}
 use Rattle.call.specs.Record.{freeCall, requested}
+use Rattle.remote.specs.declared.Pendings.{Pendings}
+use Rattle.remote.specs.Kinds.{lengthOf}
+use Rattle.remote.specs.Held.{withPending, timersOf}
+use Rattle.remote.proofs.Held.{timers-at, timers-put}
 use Rattle.station.specs.declared.Station.{Station}
 use Rattle.station.specs.Table.{at, requestsOf, openIdentifiers, sound, identifierFor}
-use Rattle.station.specs.Demand2.{Open, Apart, DistinctReads, SoundApart, SoundDraws, DrawnThere}
+use Rattle.station.specs.Demand2.{Open, FarOpen, Apart, DistinctReads, SoundApart, SoundDraws, DrawnThere}
 use Rattle.station.proofs.Whole.{whole}
 
--- a place of the rest is the next place of the whole
-up : {c : Call} {rest : List Call} {i k : ℕ} → Open rest i k → Open (c ∷ rest) (suc i) k
-up o = record { asked = o .asked; bears = o .bears }
+-- both tables as lists of holders
+abbrev idOf : Call → ℕ
+idOf c = c .identifier
 
-down : {c : Call} {rest : List Call} {i k : ℕ} → Open (c ∷ rest) (suc i) k → Open rest i k
-down o = record { asked = o .asked; bears = o .bears }
+abbrev farId : Timer → ℕ
+farId t = t .request .identifier
 
--- an open request's identifier is taken, and one that is taken is an open request's
-pub taken-at : (calls : List Call) (i k : ℕ) → Open calls i k → T (taken (requestsOf calls) k)
-unfolding requestsOf any
-taken-at [] i k o = absurd (o .asked)
-taken-at (c ∷ rest) zero k o =
-    rw (is-true (requested c) (o .asked)) (or-inl (eqb k (c .identifier)) (taken (requestsOf rest) k) (eq→eqb k (c .identifier) (sym (o .bears))))
-taken-at (c ∷ rest) (suc i) k o =
-    let t = taken-at rest i k (down o) in
-    when-has (λ held. T (taken held k)) (requested c) (λ r. or-inr (eqb k (c .identifier)) (taken (requestsOf rest) k) t) (λ r. t)
-
-pub place-of : (calls : List Call) (k : ℕ) → T (taken (requestsOf calls) k) → (i : ℕ) × Open calls i k
-unfolding requestsOf any
-place-of [] k t = absurd t
-place-of (c ∷ rest) k t = go (requested c) refl t (place-of rest k)
-  where
-    later : (i : ℕ) × Open rest i k → (i : ℕ) × Open (c ∷ rest) i k
-    later p = (suc (p .0), up (p .1))
-
-    here : (b : Bool) → eqb k (c .identifier) ≡ b → T (requested c) → T (b || taken (requestsOf rest) k)
-        → (T (taken (requestsOf rest) k) → (i : ℕ) × Open rest i k) → (i : ℕ) × Open (c ∷ rest) i k
-    here true e r g ih = (0, record { asked = r; bears = sym (eqb→eq k (c .identifier) (from-true (eqb k (c .identifier)) e)) })
-    here false e r g ih = later (ih g)
-
-    go : (b : Bool) → requested c ≡ b → T (taken (when b then c .identifier ∷ requestsOf rest else requestsOf rest) k)
-        → (T (taken (requestsOf rest) k) → (i : ℕ) × Open rest i k) → (i : ℕ) × Open (c ∷ rest) i k
-    go true q g ih = here (eqb k (c .identifier)) refl (from-true (requested c) q) g ih
-    go false q g ih = later (ih g)
-
--- the first record's request is none of the rest's
-first-apart : (c : Call) (rest : List Call) (j k : ℕ) → T (distinct (requestsOf (c ∷ rest))) → Open (c ∷ rest) 0 k → Open rest j k → ⊥
+none : requestsOf [] ≡ []
 unfolding requestsOf
-first-apart c rest j k d a b =
-    head-apart (c .identifier) (requestsOf rest) (rw (is-true (requested c) (a .asked)) at d) (rw (a .bears) (taken-at rest j k b))
+none = refl
 
-rest-apart : (c : Call) (rest : List Call) → T (distinct (requestsOf (c ∷ rest))) → T (distinct (requestsOf rest))
-unfolding requestsOf
-rest-apart c rest d = go (requested c) d
-  where
-    go : (b : Bool) → T (distinct (when b then c .identifier ∷ requestsOf rest else requestsOf rest)) → T (distinct (requestsOf rest))
-    go true h = tail-distinct (c .identifier) (requestsOf rest) h
-    go false h = h
-
-pub apart-of : (calls : List Call) → T (distinct (requestsOf calls)) → Apart calls
-apart-of [] d i j k a b = absurd (a .asked)
-apart-of (c ∷ rest) d zero zero k a b = refl
-apart-of (c ∷ rest) d zero (suc j) k a b = absurd (first-apart c rest j k d a (down b))
-apart-of (c ∷ rest) d (suc i) zero k a b = absurd (first-apart c rest i k d b (down a))
-apart-of (c ∷ rest) d (suc i) (suc j) k a b = ap suc (apart-of rest (rest-apart c rest d) i j k (down a) (down b))
-
-pub distinct-of : (calls : List Call) → Apart calls → T (distinct (requestsOf calls))
-unfolding requestsOf distinct
-distinct-of [] a = tt
-distinct-of (c ∷ rest) a =
-    let d = distinct-of rest (λ i j k x y. let f = a (suc i) (suc j) k (up x) (up y) in omega arith) in
-    let first : T (requested c) → T (taken (requestsOf rest) (c .identifier)) → ⊥ = λ r t.
-    let (i, o) = place-of rest (c .identifier) t in
-    let f : 0 ≡ suc i = a 0 (suc i) (c .identifier) (record { asked = r; bears = refl }) (up o) in
-    omega arith in
-    when-has (λ held. T (distinct held)) (requested c) (λ r. distinct-cons (c .identifier) (requestsOf rest) d (first r)) (λ r. d)
-
-pub distinct-reads : DistinctReads
-distinct-reads s calls = (apart-of calls, distinct-of calls)
-
-pub sound-apart : SoundApart
-sound-apart s calls h = apart-of calls (whole s calls h .apart)
-
--- what one record adds
-abbrev own : Call → List ℕ
-own c = when requested c then c .identifier ∷ [] else []
-
-joins : (c : Call) (rest : List Call) → requestsOf (c ∷ rest) ≡ own c ++ requestsOf rest
+joins : (c : Call) (rest : List Call) → requestsOf (c ∷ rest) ≡ holders.ownOf requested idOf c ++ requestsOf rest
 unfolding requestsOf
 joins c rest =
     elim (requested c) as (λ b. (when b then c .identifier ∷ requestsOf rest else requestsOf rest) ≡ (when b then c .identifier ∷ [] else []) ++ requestsOf rest)
     [ true ↦ refl | false ↦ refl ]
 
-own-distinct : (c : Call) → T (distinct (own c))
-unfolding distinct any
-own-distinct c = when-has (λ held. T (distinct held)) (requested c) (λ _. tt) (λ _. tt)
+far-none : identifiersOf [] ≡ []
+unfolding identifiersOf
+far-none = refl
 
-own-taken : (c : Call) (k : ℕ) → T (taken (own c) k) → T (requested c) × (k ≡ c .identifier)
-unfolding any
-own-taken c k t = go (requested c) refl t
-  where
-    go : (b : Bool) → requested c ≡ b → T (taken (when b then c .identifier ∷ [] else []) k) → T (requested c) × (k ≡ c .identifier)
-    go true q h = (from-true (requested c) q, eqb→eq k (c .identifier) (or-left (eqb k (c .identifier)) false (λ f. f) h))
-    go false q h = absurd h
+far-joins : (t : Timer) (rest : List Timer) → identifiersOf (t ∷ rest) ≡ holders.ownOf waiting farId t ++ identifiersOf rest
+unfolding identifiersOf
+far-joins t rest = refl
+
+abbrev Near : List Call → ℕ → ℕ → Type 0
+Near calls i k = holders.Holds requested idOf freeCall calls i k
+
+abbrev Far : Pendings → ℕ → ℕ → Type 0
+Far p i k = holders.Holds waiting farId noTimer (timersOf p) i k
+
+near : (calls : List Call) (i k : ℕ) → Open calls i k → Near calls i k
+near calls i k o = record { within = within requested freeCall calls i tt (o .asked); asked = o .asked; bears = o .bears }
+
+near-open : (calls : List Call) (i k : ℕ) → Near calls i k → Open calls i k
+near-open calls i k o = record { asked = o .asked; bears = o .bears }
+
+far : (s : Station) (i k : ℕ) → FarOpen s i k → Far (s .remote .pending) i k
+far s i k o =
+    let e = timers-at (s .remote .pending) i (o .small) in
+    record { within = o .small; asked = rw e (o .asked); bears = rw e (o .bears) }
+
+far-open : (s : Station) (i k : ℕ) → Far (s .remote .pending) i k → FarOpen s i k
+far-open s i k o =
+    let e = timers-at (s .remote .pending) i (o .within) in
+    record { small = o .within; asked = rw e at (o .asked); bears = rw e at (o .bears) }
+
+-- the two parts of the open identifiers
+abbrev farIds : Station → List ℕ
+farIds s = identifiersOf (timersOf (s .remote .pending))
+
+pub near-taken : (calls : List Call) (i k : ℕ) → Open calls i k → T (taken (requestsOf calls) k)
+near-taken calls i k o = holders.taken-at requested idOf requestsOf none joins freeCall calls i k (near calls i k o)
+
+pub far-taken : (s : Station) (i k : ℕ) → FarOpen s i k → T (taken (farIds s) k)
+far-taken s i k o = holders.taken-at waiting farId identifiersOf far-none far-joins noTimer (timersOf (s .remote .pending)) i k (far s i k o)
+
+pub taken-at : (s : Station) (calls : List Call) (i k : ℕ) → Open calls i k → T (taken (openIdentifiers s calls) k)
+taken-at s calls i k o = taken-left (requestsOf calls) (farIds s) k (near-taken calls i k o)
+
+pub apart-of : (s : Station) (calls : List Call) → T (distinct (openIdentifiers s calls)) → Apart s calls
+apart-of s calls d = record {
+  near = λ i j k a b. holders.apart-of requested idOf requestsOf none joins freeCall calls (distinct-left (requestsOf calls) (farIds s) d) i j k (near calls i k a) (near calls j k b);
+  far = λ i j k a b. holders.apart-of waiting farId identifiersOf far-none far-joins noTimer (timersOf (s .remote .pending)) (distinct-right (requestsOf calls) (farIds s) d) i j k (far s i k a) (far s j k b);
+  between = λ i j k a b. parts-apart (requestsOf calls) (farIds s) d k (near-taken calls i k a) (far-taken s j k b);
+}
+
+pub distinct-of : (s : Station) (calls : List Call) → Apart s calls → T (distinct (openIdentifiers s calls))
+distinct-of s calls a =
+    distinct-joined (requestsOf calls) (farIds s)
+    (holders.distinct-of requested idOf requestsOf none joins freeCall calls (λ i j k x y. a .near i j k (near-open calls i k x) (near-open calls j k y)))
+    (holders.distinct-of waiting farId identifiersOf far-none far-joins noTimer (timersOf (s .remote .pending)) (λ i j k x y. a .far i j k (far-open s i k x) (far-open s j k y)))
+    (λ k t u.
+    let (i, x) = holders.place-of requested idOf requestsOf none joins freeCall calls k t in
+    let (j, y) = holders.place-of waiting farId identifiersOf far-none far-joins noTimer (timersOf (s .remote .pending)) k u in
+    a .between i j k (near-open calls i k x) (far-open s j k y))
+
+pub distinct-reads : DistinctReads
+distinct-reads s calls = (apart-of s calls, distinct-of s calls)
+
+pub sound-apart : SoundApart
+sound-apart s calls h = apart-of s calls (whole s calls h .apart)
 
 -- a record is stored whose request, if it has one, bears an identifier that no open request has
-pub requests-set : (calls : List Call) (i : ℕ) (x : Call) → i < length calls → T (distinct (requestsOf calls))
-    → (T (requested x) → T (taken (requestsOf calls) (x .identifier)) → ⊥) → T (distinct (requestsOf (set calls i x)))
-requests-set calls i x l d f =
-    distinct-set own requestsOf joins calls i freeCall x l d (own-distinct x)
-    (λ k t u. let (r, q) = own-taken x k t in absurd (f r (rw q at u)))
+pub requests-set : (s : Station) (calls : List Call) (i : ℕ) (x : Call) → i < length calls → T (distinct (openIdentifiers s calls))
+    → (T (requested x) → T (taken (openIdentifiers s calls) (x .identifier)) → ⊥) → T (distinct (openIdentifiers s (set calls i x)))
+requests-set s calls i x l d f = holders.stored-before requested idOf requestsOf none joins freeCall (farIds s) calls i x l d f
 
-requests-length : (calls : List Call) → length (requestsOf calls) ≤ length calls
-unfolding requestsOf
-requests-length [] = zero-le
-requests-length (c ∷ rest) =
-    let l = requests-length rest in
-    let m : length (requestsOf rest) ≤ suc (length rest) = omega arith in
-    when-has (λ (held : List ℕ). length held ≤ suc (length rest)) (requested c) (λ r. suc-le-suc l) (λ r. m)
+-- and so a request of the station
+pub far-set : (s : Station) (calls : List Call) (sort : ℕ) (p : Pending) → sort < 4 → T (distinct (openIdentifiers s calls))
+    → (T (waits p) → T (taken (openIdentifiers s calls) (p .identifier)) → ⊥)
+    → T (distinct (requestsOf calls ++ identifiersOf (timersOf (withPending sort p (s .remote .pending)))))
+far-set s calls sort p l d f =
+    rw (timers-put p (s .remote .pending) sort l)
+    (holders.stored-behind waiting farId identifiersOf far-none far-joins noTimer (requestsOf calls) (timersOf (s .remote .pending)) sort
+    (record { length = lengthOf sort; request = p }) l d f)
+
+-- at most 64 and 4
+open-length : (s : Station) (calls : List Call) → length calls ≤ 64 → length (openIdentifiers s calls) ≤ 68
+open-length s calls l =
+    let a = holders.gathered-length requested idOf requestsOf none joins freeCall calls in
+    let b : length (farIds s) ≤ 4 = holders.gathered-length waiting farId identifiersOf far-none far-joins noTimer (timersOf (s .remote .pending)) in
+    rw (length-append (requestsOf calls) (farIds s)) (omega arith)
 
 pub sound-draws : SoundDraws
 sound-draws s calls h =
     let held = openIdentifiers s calls in
-    let few : length held ≤ 64 = omega (arith, requests-length calls, leb→le (length calls) 64 (whole s calls h .few)) in
+    let few : length held ≤ 68 = open-length s calls (leb→le (length calls) 64 (whole s calls h .few)) in
     let f = draw.first held (s .next) few in
-    let n : 65 ≤ f .steps → ⊥ = λ l. let c = crowded 65 (s .next) held (omega arith) (λ i g. f .before i (omega arith)) in omega arith in
-    record { first = f; near = omega arith; free = λ i o. f .free (taken-at calls i (identifierFor s calls) o); only = λ k g. draw.only held (s .next) k few g }
+    let n : 69 ≤ f .steps → ⊥ = λ l. let c = crowded 69 (s .next) held (omega arith) (λ i g. f .before i (omega arith)) in omega arith in
+    record {
+      first = f;
+      near = omega arith;
+      free = λ i o. f .free (taken-at s calls i (identifierFor s calls) o);
+      farFree = λ i o. f .free (taken-right (requestsOf calls) (farIds s) (identifierFor s calls) (far-taken s i (identifierFor s calls) o));
+      only = λ k g. draw.only held (s .next) k few g;
+    }
 
 pub drawn-there : DrawnThere
 drawn-there s calls h =

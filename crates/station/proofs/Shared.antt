@@ -1,6 +1,6 @@
 -- What a refusal, a place and an identifier are taken from is the same in both runs. Assumes nothing.
 use Prim.Native.Nat.{ℕ, _≤_}
-use mathlib.Core.Path.{_≡_, refl}
+use mathlib.Core.Path.{_≡_, refl, ap, _∙_}
 use mathlib.Core.Bool.{Bool}
 use mathlib.Core.List.{List, Forall₂, Forall₂·nil, Forall₂·cons}
 use mathlib.Core.Logic.{⊎-elim}
@@ -11,8 +11,8 @@ use Rattle.ground.specs.Lists.{first}
 use Rattle.ground.proofs.Bools.{is-true}
 use Rattle.ground.proofs.Pointwise.{getD-rel, length-rel}
 use Rattle.event.specs.declared.Event.{Event}
-use Rattle.event.specs.WellMade.{wellMade}
-use Rattle.notice.specs.Stricter.{tightened}
+use Rattle.event.specs.WellMade.{wellMade, callMade}
+use Rattle.notice.specs.Stricter.{lowered, tightened}
 use Rattle.waits.proofs.Laws.{party-same, count-same, numbers-same as waiting-numbers-same, reasons-same as waiting-reasons-same}
 use Rattle.call.specs.declared.Call.{Call}
 use Rattle.call.specs.Record.{isFree}
@@ -22,7 +22,9 @@ use Rattle.call.proofs.Stricter.{Framed, framed, framed-of, forbids-same, free-
 use Rattle.station.specs.declared.Station.{Station}
 use Rattle.station.specs.Table.{at, requestsOf, sound, identifierFor, place}
 use Rattle.station.specs.Refusals.{refusalOnSound, refusal}
-use Rattle.station.specs.Step.{stationAfter}
+use Rattle.station.specs.Step.{stationWith, stationAfter, farMoved, onCall}
+use Rattle.remote.specs.declared.Remote.{Remote}
+use Rattle.remote.specs.Rules as far
 use Rattle.station.specs.Demand3.{SameStates, acts}
 
 -- a record and a stricter one
@@ -53,7 +55,7 @@ same-states (stricter c w h p (tightened g strictest forbidden shown low top mar
 
 -- two events are well made alike
 pub made-same : {e e' : Event} → StricterEvent e e' → wellMade e' ≡ wellMade e
-unfolding wellMade
+unfolding wellMade callMade
 made-same (same e) = refl
 made-same (lower e option k l m) =
     let small : option ≤ 2 = omega arith in
@@ -72,6 +74,13 @@ unfolding requestsOf
 requests-same Forall₂·nil = refl
 requests-same (Forall₂·cons (stricter c w h p q) rs) = rw (requests-same rs)
 
+-- an event of another run is the same to what the station holds: what is tightened is of a call
+far-step : (r : Remote) (identifier : ℕ) {e e' : Event} → StricterEvent e e' → far.step r e' identifier ≡ far.step r e identifier
+unfolding far.step
+far-step r identifier (same e) = refl
+far-step r identifier (lower e option k l m) = ⊎-elim (λ (z : e .kind ≡ 12). rw z) (λ (z : e .kind ≡ 13). rw z) k
+far-step r identifier (hide e k) = rw k
+
 module _ {t t' : List Call} (q : Forall₂ StricterCall t t') where
   pub at-stricter : (i : ℕ) → StricterCall (at t i) (at t' i)
   at-stricter i = getD-rel i q free-stricter
@@ -85,7 +94,16 @@ module _ {t t' : List Call} (q : Forall₂ StricterCall t t') where
   pub station-same : (s : Station) {e e' : Event} → Framed e e' → stationAfter s t' e' ≡ stationAfter s t e
   station-same s (framed e option flag) = rw (identifier-same s)
 
-  -- numbers 2 to 8
+  pub with-same : (s : Station) (r : Remote) {e e' : Event} → Framed e e' → stationWith s t' e' r ≡ stationWith s t e r
+  with-same s r (framed e option flag) = rw (identifier-same s)
+
+  pub far-same : (s : Station) {e e' : Event} → StricterEvent e e' → farMoved s t' e' ≡ farMoved s t e
+  far-same s {e} p = far-step (s .remote) (identifierFor s t') p ∙ ap (far.step (s .remote) e) (identifier-same s)
+
+  on-call-same : {e e' : Event} → Framed e e' → onCall t' e' ≡ onCall t e
+  on-call-same (framed e option flag) = rw (place-same (framed e option flag), length-rel q)
+
+  -- numbers 2 to 9
   numbers-same : (s : Station) {e e' : Event} → Framed e e' → wellMade e' ≡ wellMade e → refusalOnSound s t' e' ≡ refusalOnSound s t e
   unfolding refusalOnSound
   numbers-same s (framed e option flag) made =
@@ -99,4 +117,4 @@ module _ {t t' : List Call} (q : Forall₂ StricterCall t t') where
   refusal-same s a b p = rw (is-true (sound s t') b, is-true (sound s t) a) (numbers-same s (framed-of p) (made-same p))
 
   pub acts-same : (s : Station) {e e' : Event} → T (sound s t) → T (sound s t') → StricterEvent e e' → acts s t' e' ≡ acts s t e
-  acts-same s a b p = rw (refusal-same s a b p, place-same (framed-of p), length-rel q)
+  acts-same s a b p = rw (refusal-same s a b p, on-call-same (framed-of p))

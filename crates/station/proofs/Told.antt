@@ -9,6 +9,7 @@ use lib.Seq.{getD-set-same}
 use borrow.Author.Tests.{ltb-true, ltb-false}
 use Rattle.ground.proofs.Bools.{and-l, and-r, and-i, eq→eqb, from-true, from-false, by-cases, when-has}
 use Rattle.event.specs.declared.Event.{Event}
+use Rattle.event.specs.Remote.{ofRemote}
 use Rattle.notice.specs.declared.Dli1.{Dli1}
 use Rattle.notice.specs.Whole.{Told}
 use Rattle.call.specs.declared.Call.{Call}
@@ -18,10 +19,11 @@ use Rattle.call.proofs.Heard.{none-told, learns-none}
 use Rattle.call.proofs.Told.{act-told}
 use Rattle.call.proofs.Recalled.{Recalled, sound-recalled}
 use Rattle.station.specs.declared.Station.{Station}
+use Rattle.station.specs.declared.Answer.{Answer}
 use Rattle.station.specs.Station.{freshStation}
 use Rattle.station.specs.Table.{at, identifierFor, place}
 use Rattle.station.specs.Refusals.{refusal}
-use Rattle.station.specs.Step.{effectAt, step, turn, turns}
+use Rattle.station.specs.Step.{effectAt, onCall, step, turn, turns}
 use Rattle.station.specs.Demand3.{acts}
 use Rattle.station.specs.Told.{Lists, news, listsAfter, Fits, ByLists, over, onward, RunsByLists, nothingTold, FreshByLists, SoundFits}
 use Rattle.station.proofs.Numbers.{Passed, passed}
@@ -29,7 +31,7 @@ use Rattle.station.proofs.Whole.{record-sound}
 use Rattle.station.proofs.Requests.{drawn-passes}
 use Rattle.station.proofs.Addressed.{addressed-there}
 use Rattle.station.proofs.Places.{others-stay}
-use Rattle.station.proofs.Kept.{step-sound, fresh-sound}
+use Rattle.station.proofs.Kept.{step-sound, fresh-sound, call-made}
 use Rattle.station.proofs.Demand3.{step-acts, idle-answer, idle-calls}
 
 module _ (lists : Lists) (s : Station) (calls : List Call) (e : Event) (fits : Fits lists calls) where
@@ -38,22 +40,24 @@ module _ (lists : Lists) (s : Station) (calls : List Call) (e : Event) (fits : F
       → TellsOf (lists .told (place calls e)) (lists .accepted (place calls e)) (at calls (place calls e)) e (effectAt s calls e (place calls e))
   told-there u =
       let i = place calls e in
-      let p : Passed s calls e = passed s calls e (eqb→eq (refusal s calls e) 0 (and-l (eqb (refusal s calls e) 0) (ltb i (length calls)) u)) in
-      let l = ltb→lt i (length calls) (and-r (eqb (refusal s calls e) 0) (ltb i (length calls)) u) in
+      let p : Passed s calls e = passed s calls e (eqb→eq (refusal s calls e) 0 (and-l (eqb (refusal s calls e) 0) (onCall calls e) u)) in
+      let near : T (not (ofRemote e)) = search (and-l, and-r) in
+      let l = ltb→lt i (length calls) (search (and-l, and-r)) in
       let (a, b) = addressed-there s calls e p in
-      act-told (s .last) (identifierFor s calls) (lists .told i) (lists .accepted i) (at calls i) e (drawn-passes s calls (p .whole)) (record-sound s calls (p .whole) i l) (p .timely) (p .made) a b (fits i .0) (fits i .1)
+      act-told (s .last) (identifierFor s calls) (lists .told i) (lists .accepted i) (at calls i) e (drawn-passes s calls (p .whole)) (record-sound s calls (p .whole) i l) (p .timely) (call-made e near (p .made)) a b (fits i .0) (fits i .1)
 
   learns : Learns (lists .told (place calls e)) (news lists (turn s calls e)) (step s calls e .answer .notice) (step s calls e .answer .number)
   learns =
       by-cases (acts s calls e)
       (λ y. let u = from-true (acts s calls e) y in rw (step-acts s calls e u, y) (told-there u .learns))
-      (λ n. rw (idle-answer s calls e (from-false (acts s calls e) n), n) (learns-none (lists .told (place calls e))))
+      (λ n. rw (idle-answer s calls e (from-false (acts s calls e) n), n)
+      (when-has (λ (a : Answer). Learns (lists .told (place calls e)) [] (a .notice) (a .number)) (eqb (refusal s calls e) 0) (λ _. learns-none (lists .told (place calls e))) (λ _. learns-none (lists .told (place calls e)))))
 
   -- the record at the place of an event that acts
   acted : T (acts s calls e) → at (step s calls e .calls) (place calls e) ≡ effectAt s calls e (place calls e) .call
   acted u =
       let i = place calls e in
-      let l = ltb→lt i (length calls) (and-r (eqb (refusal s calls e) 0) (ltb i (length calls)) u) in
+      let l = ltb→lt i (length calls) (search (and-l, and-r)) in
       rw (step-acts s calls e u) (getD-set-same calls i (effectAt s calls e i .call) freeCall l)
 
   goes : T (acts s calls e)
@@ -97,7 +101,8 @@ none-fits (suc n) zero = (none-told, refl)
 none-fits (suc n) (suc i) = none-fits n i
 
 pub fresh-by-lists : FreshByLists
-fresh-by-lists limit n es h a b = runs-by-lists nothingTold (freshStation limit) (replicate n freeCall) es (fresh-sound limit n h a b) (none-fits n)
+fresh-by-lists limit enabled allowed n es h a b =
+    runs-by-lists nothingTold (freshStation limit enabled allowed) (replicate n freeCall) es (fresh-sound limit enabled allowed n h a b) (none-fits n)
 
 pub sound-fits : SoundFits
 sound-fits s calls h = record {

@@ -14,20 +14,21 @@ use Rattle.call.specs.declared.Call.{Call}
 use Rattle.station.specs.declared.Station.{Station}
 use Rattle.station.specs.Station.{freshOf, shortForm, emptyAnswer}
 use Rattle.station.specs.Table.{at, sound}
-use Rattle.station.specs.Refusals.{notSound, early, illMade, noSuchCall, notTaken, otherIdentifier, overLimit, noFreeRecord}
+use Rattle.station.specs.Refusals.{notSound, early, illMade, noSuchCall, notTaken, foreignAnswer, overLimit, noFreeRecord, pendingAlready}
 use Rattle.station.specs.Step.{Outcome, step, stepOnSound}
 
--- "tested in this order": the conditions of the numbers 1 to 8
+-- "tested in this order": the conditions of the numbers 1 to 9
 abbrev pub conditions : Station → List Call → Event → List Bool
 conditions s calls e =
     notSound s calls
     ∷ early s e
     ∷ illMade e
     ∷ noSuchCall calls e
-    ∷ notTaken calls e
-    ∷ otherIdentifier (at calls (e .call)) e
+    ∷ notTaken s calls e
+    ∷ foreignAnswer s (at calls (e .call)) e
     ∷ overLimit s (at calls (e .call)) e
     ∷ noFreeRecord calls e
+    ∷ pendingAlready s e
     ∷ []
 
 -- a number, from 1, whose condition holds where none before it does; 0 where none holds
@@ -58,10 +59,12 @@ pub record Refusal (s : Station) (before : List Call) (o : Outcome) : Type 0 whe
 abbrev pub RefusalStays : Type 0
 RefusalStays = (s : Station) (calls : List Call) (e : Event) → (codeOf s calls e ≡ 0 → ⊥) → Refusal s calls (step s calls e)
 
--- "A done event makes its time the last time."; the limit stays
+-- "A done event makes its time the last time."; the limit stays, and the two marks, which "a fresh station takes"
 pub record Timed (s : Station) (e : Event) (o : Outcome) : Type 0 where
   pub last : o .station .last ≡ e .time
   pub limit : o .station .limit ≡ s .limit
+  pub enabled : o .station .remote .enabled ≡ s .remote .enabled
+  pub allowed : o .station .remote .allowed ≡ s .remote .allowed
 
 abbrev pub DoneTimed : Type 0
 DoneTimed = (s : Station) (calls : List Call) (e : Event) → codeOf s calls e ≡ 0 → Timed s e (step s calls e)
@@ -70,6 +73,6 @@ DoneTimed = (s : Station) (calls : List Call) (e : Event) → codeOf s calls e �
 abbrev pub OnSound : Type 0
 OnSound = (s : Station) (calls : List Call) (e : Event) → T (sound s calls) → stepOnSound s calls e ≡ step s calls e
 
--- document 02, Four: "The short form of a fresh station shall use limit 5."
+-- document 02, Four: "The short form of a fresh station shall use limit 5."; Seven: "short form ..: both set"
 abbrev pub ShortIsFive : Type 0
-ShortIsFive = freshOf 5 ≡ record { code = 0; station = shortForm }
+ShortIsFive = freshOf 5 1 1 ≡ record { code = 0; station = shortForm }

@@ -1,5 +1,6 @@
 -- Demand 2 over the table: what the events keep, what a request takes, how it ends, and what a clock event does. The theorems
--- are in proofs/Kept, Lists, Requests, There, Places, Named, Asking, Endings and Clocks.
+-- are in proofs/Kept, Lists, Requests, There, Places, Named, Asking, Endings and Clocks. How the station's own requests begin and end
+-- is said in FarRequests.
 use Prim.Native.Nat.{ℕ, _+_, _≤_, _<_}
 use mathlib.Core.Path.{_≡_}
 use mathlib.Core.Bool.{Bool, not, _||_}
@@ -12,13 +13,18 @@ use Rattle.ground.specs.Choice.{when_then_else_}
 use Rattle.ground.specs.Lists.{all}
 use Rattle.event.specs.declared.Event.{Event}
 use Rattle.event.specs.Kinds.{UserAnswers, ReroutingResult, ReroutingError, ReroutingInvoke, FarEndEnds, opens, answersRequest, diverts, clock, ends}
-use Rattle.identifier.specs.Identifier.{after, distinct}
+use Rattle.event.specs.Remote.{sorts, asks, ofRemote}
+use Rattle.identifier.specs.Identifier.{candidates, after, distinct}
 use Rattle.identifier.specs.Statements.{First}
 use Rattle.call.specs.declared.Call.{Call}
 use Rattle.call.specs.Record.{freeCall, isFree, requested, granted}
 use Rattle.call.specs.Incoming.{counterSent, due, idle}
+use Rattle.timed.specs.Timed as timed
+use Rattle.timed.specs.Timed.{waits}
+use Rattle.remote.specs.Kinds.{lengthOf}
+use Rattle.remote.specs.Held.{pendingOf}
 use Rattle.station.specs.declared.Station.{Station}
-use Rattle.station.specs.Station.{limitOk, freshStation, emptyAnswer}
+use Rattle.station.specs.Station.{freshOk, freshStation, emptyAnswer}
 use Rattle.station.specs.Table.{at, openIdentifiers, sound, identifierFor, place}
 use Rattle.station.specs.Step.{Outcome, step, TurnTaken, turn, turns, outcomes, Ran, runOn, run}
 use Rattle.station.specs.Demand1.{codeOf}
@@ -56,55 +62,71 @@ RunCounts = (s : Station) (calls : List Call) (events : List Event) → run s ca
 
 -- a fresh station with 1 to 64 free records is sound
 abbrev pub FreshSound : Type 0
-FreshSound = (limit n : ℕ) → T (limitOk limit) → 1 ≤ n → n ≤ 64 → T (sound (freshStation limit) (replicate n freeCall))
+FreshSound =
+    (limit enabled allowed n : ℕ) → T (freshOk limit enabled allowed) → 1 ≤ n → n ≤ 64
+    → T (sound (freshStation limit enabled allowed) (replicate n freeCall))
 
 -- the record at a place has an open request with an identifier
 pub record Open (calls : List Call) (i identifier : ℕ) : Type 0 where
   pub asked : T (requested (at calls i))
   pub bears : at calls i .identifier ≡ identifier
 
--- "no two Requested records share an identifier", over two places of the table
-abbrev pub Apart : List Call → Type 0
-Apart calls = (i j identifier : ℕ) → Open calls i identifier → Open calls j identifier → i ≡ j
+-- the station's request of a sort is open with an identifier
+pub record FarOpen (s : Station) (sort identifier : ℕ) : Type 0 where
+  pub small : sort < sorts
+  pub asked : T (waits (pendingOf sort (s .remote .pending)))
+  pub bears : pendingOf sort (s .remote .pending) .identifier ≡ identifier
+
+-- "no two open requests share" covers both tables: two records, two sorts, a record and a sort
+pub record Apart (s : Station) (calls : List Call) : Type 0 where
+  pub near : (i j identifier : ℕ) → Open calls i identifier → Open calls j identifier → i ≡ j
+  pub far : (i j identifier : ℕ) → FarOpen s i identifier → FarOpen s j identifier → i ≡ j
+  pub between : (i j identifier : ℕ) → Open calls i identifier → FarOpen s j identifier → ⊥
 
 abbrev pub DistinctReads : Type 0
-DistinctReads = (s : Station) (calls : List Call) → T (distinct (openIdentifiers s calls)) ↔ Apart calls
+DistinctReads = (s : Station) (calls : List Call) → T (distinct (openIdentifiers s calls)) ↔ Apart s calls
 
 abbrev pub SoundApart : Type 0
-SoundApart = (s : Station) (calls : List Call) → T (sound s calls) → Apart calls
+SoundApart = (s : Station) (calls : List Call) → T (sound s calls) → Apart s calls
 
--- "takes the first identifier from the next one on that no open request has": one of 65 candidates,
+-- "takes the first identifier from the next one on that no open request has": one of 69 candidates,
 -- and no other is so
 pub record Drawn (s : Station) (calls : List Call) (identifier : ℕ) : Type 0 where
   pub first : First (openIdentifiers s calls) (s .next) identifier
-  pub near : first .steps < 65
+  pub near : first .steps < candidates
   pub free : (i : ℕ) → Open calls i identifier → ⊥
+  pub farFree : (sort : ℕ) → FarOpen s sort identifier → ⊥
   pub only : (other : ℕ) → First (openIdentifiers s calls) (s .next) other → other ≡ identifier
 
 abbrev pub SoundDraws : Type 0
 SoundDraws = (s : Station) (calls : List Call) → T (sound s calls) → Drawn s calls (identifierFor s calls)
 
+-- no open request bears an identifier, of a call or of the station
+pub record NoneBears (s : Station) (calls : List Call) (identifier : ℕ) : Type 0 where
+  pub near : (i : ℕ) → Open calls i identifier → ⊥
+  pub far : (sort : ℕ) → FarOpen s sort identifier → ⊥
+
 -- Document 02, Three: no identifier of ours is 0. No open request of a sound table bears it,
 abbrev pub RequestsThere : Type 0
-RequestsThere = (s : Station) (calls : List Call) → T (sound s calls) → (i : ℕ) → Open calls i 0 → ⊥
+RequestsThere = (s : Station) (calls : List Call) → T (sound s calls) → NoneBears s calls 0
 
 -- nor does one that a list of events leaves open,
 abbrev pub RunThere : Type 0
-RunThere = (s : Station) (calls : List Call) (events : List Event) → T (sound s calls) → (i : ℕ) → Open (run s calls events .calls) i 0 → ⊥
+RunThere = (s : Station) (calls : List Call) (events : List Event) → T (sound s calls) → NoneBears (run s calls events .station) (run s calls events .calls) 0
 
 -- nor does the one that the next request takes,
 abbrev pub DrawnThere : Type 0
 DrawnThere = (s : Station) (calls : List Call) → T (sound s calls) → identifierFor s calls ≡ 0 → ⊥
 
--- nor the one that a done divert's answer names, which its request and its invoke bear too (`Asks`),
+-- nor the one that the answer to a done request names, which the request and its invoke bear too (`Asks`, `FarAsked`),
 abbrev pub DivertThere : Type 0
-DivertThere = (s : Station) (calls : List Call) (e : Event) → T (diverts e) → codeOf s calls e ≡ 0 → step s calls e .answer .identifier ≡ 0 → ⊥
+DivertThere = (s : Station) (calls : List Call) (e : Event) → T (diverts e || asks e) → codeOf s calls e ≡ 0 → step s calls e .answer .identifier ≡ 0 → ⊥
 
 -- and no done event leaves it as the next
 abbrev pub NextThere : Type 0
 NextThere = (s : Station) (calls : List Call) (e : Event) → codeOf s calls e ≡ 0 → step s calls e .station .next ≡ 0 → ⊥
 
--- "Received invokes may still bear 0 and it is echoed.": what a host is told and sends
+-- "Received invokes may still bear 0 and it is echoed.": what a host is told and sends (of kinds 20 to 23: `FarEchoed`)
 abbrev pub InvokeEchoed : Type 0
 InvokeEchoed =
     (s : Station) (calls : List Call) (e : Event)
@@ -128,7 +150,7 @@ DivertAsks = (s : Station) (calls : List Call) (e : Event) → T (diverts e) →
 
 -- every other event leaves the next identifier
 abbrev pub NextStays : Type 0
-NextStays = (s : Station) (calls : List Call) (e : Event) → T (not (diverts e)) → step s calls e .station .next ≡ s .next
+NextStays = (s : Station) (calls : List Call) (e : Event) → T (not (diverts e || asks e)) → step s calls e .station .next ≡ s .next
 
 -- an event changes at most one record, that at its place: the one it opens, ends by the clock or names
 abbrev pub OthersStay : Type 0
@@ -143,13 +165,14 @@ pub record Lowest (p : Call → Bool) (calls : List Call) (i : ℕ) : Type 0 whe
   pub passes : T (p (at calls i))
   pub lower : (j : ℕ) → j < i → T (not (p (at calls j)))
 
--- "Its answer holds the call": every done event but a clock event has a record to act on, and names it
+-- "Its answer holds the call": every done event but a clock event and kinds 16 to 31 has a record to act on, and names it
 pub record Names (calls : List Call) (e : Event) (o : Outcome) : Type 0 where
   pub there : place calls e < length calls
   pub call : o .answer .call ≡ place calls e
 
 abbrev pub DoneNames : Type 0
-DoneNames = (s : Station) (calls : List Call) (e : Event) → codeOf s calls e ≡ 0 → T (not (clock e)) → Names calls e (step s calls e)
+DoneNames =
+    (s : Station) (calls : List Call) (e : Event) → codeOf s calls e ≡ 0 → T (not (clock e)) → T (not (ofRemote e)) → Names calls e (step s calls e)
 
 -- "An open takes the lowest free record."
 abbrev pub OpenTakes : Type 0
@@ -226,32 +249,42 @@ abbrev pub NothingDue : ℕ → List Call → Type 0
 NothingDue time calls = (i : ℕ) → T (not (due time (at calls i)))
 
 -- "of the records Requested with time minus start at least 10,000, the lowest ends as by a reject and the answer names call
--- and identifier"
-pub record Expires (before : List Call) (i : ℕ) (o : Outcome) : Type 0 where
+-- and identifier"; one event ends one request: those of the station stay
+pub record Expires (s : Station) (before : List Call) (i : ℕ) (o : Outcome) : Type 0 where
   pub call : o .answer .call ≡ i
   pub identifier : o .answer .identifier ≡ at before i .identifier
   pub calls : o .calls ≡ set before i (idle (at before i))
+  pub remote : o .station .remote ≡ s .remote
 
 abbrev pub ClockEnds : Type 0
 ClockEnds =
     (s : Station) (calls : List Call) (e : Event) (i : ℕ) → T (clock e) → codeOf s calls e ≡ 0 → Lowest (due (e .time)) calls i
-    → Expires calls i (step s calls e)
+    → Expires s calls i (step s calls e)
+
+-- the station's request of a sort is due, of T2 to T5; none of them is
+abbrev pub farDue : ℕ → Station → ℕ → Bool
+farDue time s sort = timed.due (lengthOf sort) time (pendingOf sort (s .remote .pending))
+
+abbrev pub NothingFar : ℕ → Station → Type 0
+NothingFar time s = (sort : ℕ) → sort < sorts → T (not (farDue time s sort))
 
 -- "With none due, the answer has no call."
-pub record Passes (before : List Call) (o : Outcome) : Type 0 where
+pub record Passes (s : Station) (before : List Call) (o : Outcome) : Type 0 where
   pub answer : o .answer ≡ emptyAnswer 0
+  pub remote : o .station .remote ≡ s .remote
   pub calls : o .calls ≡ before
 
 abbrev pub ClockPasses : Type 0
 ClockPasses =
-    (s : Station) (calls : List Call) (e : Event) → T (clock e) → codeOf s calls e ≡ 0 → NothingDue (e .time) calls
-    → Passes calls (step s calls e)
+    (s : Station) (calls : List Call) (e : Event) → T (clock e) → codeOf s calls e ≡ 0 → NothingDue (e .time) calls → NothingFar (e .time) s
+    → Passes s calls (step s calls e)
 
--- "Sixty-four clock events in a row with one time leave nothing due, if they are done": where the first is, all are
+-- "68 of them leave nothing due", if they are done: where the first is, all are
 pub record Cleared (time n : ℕ) (r : Ran) : Type 0 where
   pub done : r .done ≡ n
   pub refused : r .refused ≡ 0
   pub none : NothingDue time (r .calls)
+  pub farNone : NothingFar time (r .station)
 
-abbrev pub SixtyFour : Type 0
-SixtyFour = (s : Station) (calls : List Call) (e : Event) → T (clock e) → codeOf s calls e ≡ 0 → Cleared (e .time) 64 (run s calls (replicate 64 e))
+abbrev pub SixtyEight : Type 0
+SixtyEight = (s : Station) (calls : List Call) (e : Event) → T (clock e) → codeOf s calls e ≡ 0 → Cleared (e .time) 68 (run s calls (replicate 68 e))

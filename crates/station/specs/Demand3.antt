@@ -8,8 +8,7 @@ use Prim.Native.Nat.{ℕ}
 use mathlib.Core.Path.{_≡_}
 use mathlib.Core.Bool.{Bool, false, _&&_, _||_, not}
 use mathlib.Core.List.{List, [], _∷_, map, Forall₂}
-use lib.Dec.{T, ltb, eqb}
-use lib.ListN.{length}
+use lib.Dec.{T, eqb}
 use Rattle.ground.specs.Choice.{when_then_else_}
 use Rattle.event.specs.declared.Event.{Event}
 use Rattle.event.specs.Kinds.{opens}
@@ -24,7 +23,7 @@ use Rattle.station.specs.declared.Station.{Station}
 use Rattle.station.specs.declared.Answer.{Answer}
 use Rattle.station.specs.Table.{sound, place}
 use Rattle.station.specs.Refusals.{refusal}
-use Rattle.station.specs.Step.{Outcome, TurnTaken, placeIn, turns, outcomes}
+use Rattle.station.specs.Step.{Outcome, onCall, TurnTaken, placeIn, turns, outcomes}
 
 -- "the same code, call, identifier, counter and messages (arguments included)"; "a notice or a number only where the other does"
 pub record StricterAnswer (a a' : Answer) : Type 0 where
@@ -80,9 +79,9 @@ RunsStricter =
 abbrev pub tightened : Event → Event → Bool
 tightened e e' = not (eqb (e' .option) (e .option) && eqb (e' .flag) (e .flag))
 
--- the event is done on a record: it is not refused, nor a clock event with nothing due
+-- the event is done on a record: it is not refused, none of kinds 16 to 31, nor a clock event with no T1 request due
 abbrev pub acts : Station → List Call → Event → Bool
-acts s calls e = eqb (refusal s calls e) 0 && ltb (place calls e) (length calls)
+acts s calls e = eqb (refusal s calls e) 0 && onCall calls e
 
 -- the same of a turn
 abbrev pub actsIn : TurnTaken → Bool

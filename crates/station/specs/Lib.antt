@@ -6,3 +6,5 @@ pub mod Demand1
 pub mod Demand2
 pub mod Demand3
 pub mod Told
+pub mod Far
+pub mod FarRequests

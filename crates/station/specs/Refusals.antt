@@ -13,11 +13,13 @@ use Rattle.call.specs.declared.Call.{Call}
 use Rattle.call.specs.Record.{isFree, isOutgoing, isIncoming}
 use Rattle.call.specs.State.{stateForbids}
 use Rattle.call.specs.Incoming.{counterSent}
+use Rattle.remote.specs.Rules.{alreadyAsked, noneWaits, otherAnswer}
 use Rattle.station.specs.declared.Station.{Station}
 use Rattle.station.specs.Table.{at, sound}
 
 -- "1: table empty, over 64 records or not sound, or limit outside 1 to 15"; document 02, Three: "an open request with 0, or a next
--- identifier 0"
+-- identifier 0"; Seven: "Soundness reaches the pending ones and the kept destinations too: codes in range, unused fields 0, no identifier 0
+-- or shared with any open request, no start after the last time; else 1"
 abbrev pub notSound : Station → List Call → Bool
 notSound s calls = not (sound s calls)
 
@@ -25,7 +27,8 @@ notSound s calls = not (sound s calls)
 abbrev pub early : Station → Event → Bool
 early s e = ltb (e .time) (s .last)
 
--- "3: kind outside 1 to 15, a field against the table above"; document 02, Three: "a kind 7 or 8 event with identifier 0"
+-- "3: kind outside 1 to 15, a field against the table above"; document 02, Three: "a kind 7 or 8 event with identifier 0"; Seven: "kinds 16
+-- to 31 are no longer 3", but where a field of theirs is against its own rule
 abbrev pub illMade : Event → Bool
 illMade e = not (wellMade e)
 
@@ -39,13 +42,17 @@ abbrev pub noSuchCall : List Call → Event → Bool
 noSuchCall calls e =
     ((ofIncoming e || ofOutgoing e || ends e) && leb (length calls) (e .call)) || wrongCall (at calls (e .call)) e
 
--- "5: The state rules below don't take the event"
-abbrev pub notTaken : List Call → Event → Bool
-notTaken calls e = stateForbids (at calls (e .call)) e
+-- "5: The state rules below don't take the event"; document 02, Seven: "a result or error with none pending is 5"
+abbrev pub notTaken : Station → List Call → Event → Bool
+notTaken s calls e = stateForbids (at calls (e .call)) e || noneWaits (s .remote) e
 
 -- "6: kind 7 or 8: not the identifier of that call's open request"
 abbrev pub otherIdentifier : Call → Event → Bool
 otherIdentifier c e = answersRequest e && not (eqb (e .identifier) (c .identifier))
+
+-- document 02, Seven: "with another identifier 6"
+abbrev pub foreignAnswer : Station → Call → Event → Bool
+foreignAnswer s c e = otherIdentifier c e || otherAnswer (s .remote) e
 
 -- "7: kind 6: counter plus 1 exceeds the limit"
 abbrev pub overLimit : Station → Call → Event → Bool
@@ -55,16 +62,21 @@ overLimit s c e = diverts e && ltb (s .limit) (counterSent c)
 abbrev pub noFreeRecord : List Call → Event → Bool
 noFreeRecord calls e = opens e && leb (length calls) (first isFree calls)
 
--- numbers 2 to 8, or 0: what is left where the table was found sound
+-- document 02, Seven: "16 to 19 with one of the same sort pending is 9"
+abbrev pub pendingAlready : Station → Event → Bool
+pendingAlready s e = alreadyAsked (s .remote) e
+
+-- numbers 2 to 9, or 0: what is left where the table was found sound
 unfoldable pub refusalOnSound : Station → List Call → Event → ℕ
 refusalOnSound s calls e =
     when early s e then 2 else
     when illMade e then 3 else
     when noSuchCall calls e then 4 else
-    when notTaken calls e then 5 else
-    when otherIdentifier (at calls (e .call)) e then 6 else
+    when notTaken s calls e then 5 else
+    when foreignAnswer s (at calls (e .call)) e then 6 else
     when overLimit s (at calls (e .call)) e then 7 else
     when noFreeRecord calls e then 8 else
+    when pendingAlready s e then 9 else
     0
 
 -- the number of the answer

@@ -1,19 +1,25 @@
 -- One event, and a list of them.
 use Prim.Native.Nat.{ℕ, suc, _+_}
-use mathlib.Core.Bool.{Bool}
+use mathlib.Core.Bool.{Bool, _&&_, _||_, not}
 use mathlib.Core.List.{List, [], _∷_, map, foldl}
 use lib.Dec.{ltb, eqb}
 use lib.ListN.{length, set}
 use Rattle.ground.specs.Choice.{when_then_else_}
 use Rattle.event.specs.declared.Event.{Event}
 use Rattle.event.specs.Kinds.{diverts}
+use Rattle.event.specs.Remote.{asks, ofRemote}
+use Rattle.notice.specs.Notice.{noNotice, noNumber}
 use Rattle.identifier.specs.Identifier.{after}
 use Rattle.call.specs.declared.Call.{Call}
 use Rattle.call.specs.declared.Effect.{Effect}
 use Rattle.call.specs.Act.{act}
+use Rattle.call.specs.Messages.{noCounter, one}
+use Rattle.remote.specs.declared.Remote.{Remote}
+use Rattle.remote.specs.declared.Moved.{Moved}
+use Rattle.remote.specs.Rules as far
 use Rattle.station.specs.declared.Station.{Station}
 use Rattle.station.specs.declared.Answer.{Answer}
-use Rattle.station.specs.Station.{emptyAnswer}
+use Rattle.station.specs.Station.{noCall, emptyAnswer}
 use Rattle.station.specs.Table.{at, identifierFor, place}
 use Rattle.station.specs.Refusals.{refusal, refusalOnSound}
 
@@ -29,11 +35,14 @@ refused s calls code = record { answer = emptyAnswer code; station = s; calls = 
 
 -- "the one after it is next"
 abbrev pub nextAfter : Station → List Call → Event → ℕ
-nextAfter s calls e = when diverts e then after (identifierFor s calls) else s .next
+nextAfter s calls e = when diverts e || asks e then after (identifierFor s calls) else s .next
 
 -- "A done event makes its time the last time."
+abbrev pub stationWith : Station → List Call → Event → Remote → Station
+stationWith s calls e r = record { last = e .time; next = nextAfter s calls e; limit = s .limit; remote = r }
+
 abbrev pub stationAfter : Station → List Call → Event → Station
-stationAfter s calls e = record { last = e .time; next = nextAfter s calls e; limit = s .limit }
+stationAfter s calls e = stationWith s calls e (s .remote)
 
 -- "Its answer holds the call, up to three messages with leg and arguments .., notice and number for the caller, and an
 -- identifier and counter where a message has them"
@@ -48,9 +57,24 @@ answerOf i x = record {
   counter = x .counter;
 }
 
--- "With none due, the answer has no call."
-abbrev pub noneDue : Station → List Call → Event → Outcome
-noneDue s calls e = record { answer = emptyAnswer 0; station = stationAfter s calls e; calls = calls }
+-- kinds 16 to 31, and a clock event with no T1 request due, name no call and act on what the station holds
+abbrev pub farAnswer : Moved → Answer
+farAnswer m = record {
+  code = 0;
+  call = noCall;
+  sent = one (m .message);
+  notice = noNotice;
+  number = noNumber;
+  identifier = m .identifier;
+  counter = noCounter;
+}
+
+abbrev pub farDone : Station → List Call → Event → Moved → Outcome
+farDone s calls e m = record { answer = farAnswer m; station = stationWith s calls e (m .remote); calls = calls }
+
+-- what an event does there
+abbrev pub farMoved : Station → List Call → Event → Moved
+farMoved s calls e = far.step (s .remote) e (identifierFor s calls)
 
 -- the effect on the record at a place
 abbrev pub effectAt : Station → List Call → Event → ℕ → Effect
@@ -60,11 +84,17 @@ effectAt s calls e i = act (at calls i) e (identifierFor s calls)
 abbrev pub doneAt : Station → List Call → Event → ℕ → Effect → Outcome
 doneAt s calls e i x = record { answer = answerOf i x; station = stationAfter s calls e; calls = set calls i (x .call) }
 
--- "0: done"
+-- the event acts on a record: it is none of kinds 16 to 31, nor a clock event with no T1 request due ("Clock events end T1 requests
+-- first, then T2 to T5")
+abbrev pub onCall : List Call → Event → Bool
+onCall calls e = not (ofRemote e) && ltb (place calls e) (length calls)
+
+-- "0: done": on the record at its place, or on what the station holds. A clock event with none of T1 to T5 due is of these: "With none due,
+-- the answer has no call." (`unmoved` of `remote`)
 unfoldable pub done : Station → List Call → Event → Outcome
 done s calls e =
-    when ltb (place calls e) (length calls) then doneAt s calls e (place calls e) (effectAt s calls e (place calls e)) else
-    noneDue s calls e
+    when onCall calls e then doneAt s calls e (place calls e) (effectAt s calls e (place calls e)) else
+    farDone s calls e (farMoved s calls e)
 
 -- done where the number is 0, else refused with it
 unfoldable pub byNumber : Station → List Call → Event → ℕ → Outcome

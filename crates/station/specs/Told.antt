@@ -17,7 +17,7 @@ use Rattle.call.specs.declared.Call.{Call}
 use Rattle.call.specs.Record.{freeCall}
 use Rattle.call.specs.Told.{tells, listAfter, acceptedAfter, Remembers, Learns, waitingOf, GoesBy}
 use Rattle.station.specs.declared.Station.{Station}
-use Rattle.station.specs.Station.{limitOk, freshStation}
+use Rattle.station.specs.Station.{freshOk, freshStation}
 use Rattle.station.specs.Table.{at, sound}
 use Rattle.station.specs.Step.{TurnTaken, placeIn, turns}
 use Rattle.station.specs.Demand3.{actsIn}
@@ -75,8 +75,8 @@ nothingTold = record { told = λ i. []; accepted = λ i. [] }
 -- "Fresh means last time 0, next identifier 65,535", with 1 to 64 free records
 abbrev pub FreshByLists : Type 0
 FreshByLists =
-    (limit n : ℕ) (es : List Event) → T (limitOk limit) → 1 ≤ n → n ≤ 64
-    → EachByLists nothingTold (turns (freshStation limit) (replicate n freeCall) es)
+    (limit enabled allowed n : ℕ) (es : List Event) → T (freshOk limit enabled allowed) → 1 ≤ n → n ≤ 64
+    → EachByLists nothingTold (turns (freshStation limit enabled allowed) (replicate n freeCall) es)
 
 -- every sound table has lists that fit it
 pub record Fitting (calls : List Call) : Type 0 where

@@ -14,12 +14,13 @@ use Rattle.ground.proofs.Bools.{by-cases}
 use Rattle.ground.proofs.Walks.{both}
 use Rattle.identifier.specs.Identifier.{distinct}
 use Rattle.call.specs.declared.Call.{Call}
-use Rattle.call.specs.Record.{isFree, requested}
+use Rattle.call.specs.Record.{isFree, requestOf, requested}
 use Rattle.call.specs.Soundness.{soundCall}
-use Rattle.call.specs.Incoming.{t1, due}
+use Rattle.timed.specs.Timed.{t1}
+use Rattle.call.specs.Incoming.{due}
 use Rattle.station.specs.Table.{requestsOf}
 use Rattle.survey.specs.declared.Asked.{Asked}
-use Rattle.survey.specs.Survey.{has, withBit, slot, surveyOf}
+use Rattle.survey.specs.Survey.{has, withBit, slotOf, surveyOf}
 use Rattle.survey.proofs.Bits.{has-with, has-stays}
 
 -- the place of the first, from i on
@@ -34,16 +35,16 @@ due-test s time =
     (λ f. let l : time - (t1 - 1) ≤ s = nltb→le s (time - (t1 - 1)) (rw f tt) in f ∙ sym (lt-leb t1 (time - s) (omega (arith, l))))
 
 -- an identifier's mark is set
-abbrev marked : ℕ → ℕ → Bool
+abbrev pub marked : ℕ → ℕ → Bool
 marked marks x = has marks (x % 64)
 
-stay : (m k : ℕ) (l : List ℕ) → all (marked m) l ≡ true → all (marked (withBit m k)) l ≡ true
+pub stay : (m k : ℕ) (l : List ℕ) → all (marked m) l ≡ true → all (marked (withBit m k)) l ≡ true
 unfolding all
 stay m k [] h = refl
 stay m k (x ∷ xs) h = let w = both (marked m x) (all (marked m) xs) h in rw (has-stays m k (x % 64) (w .0)) (stay m k xs (w .1))
 
 -- an identifier without a mark is none of those that have theirs
-other : (m x : ℕ) (l : List ℕ) → marked m x ≡ false → all (marked m) l ≡ true → any (eqb x) l ≡ false
+pub other : (m x : ℕ) (l : List ℕ) → marked m x ≡ false → all (marked m) l ≡ true → any (eqb x) l ≡ false
 unfolding all any
 other m x [] u h = refl
 other m x (y ∷ ys) u h =
@@ -73,13 +74,13 @@ module _ (q : Asked) (n : ℕ) where
       let t : (requested c && ltb (c .start) (q .by)) ≡ due time c = rw (e, due-test (c .start) time) in
       rw t (step (due time c) i (first (due time) rest) _ (survey-due time (suc i) rest e (omega (arith, h))))
 
-  survey-marks : (i : ℕ) (l : List Call) → all (marked (surveyOf q n i l .marks)) (requestsOf l) ≡ true
+  pub survey-marks : (i : ℕ) (l : List Call) → all (marked (surveyOf q n i l .marks)) (requestsOf l) ≡ true
   unfolding surveyOf requestsOf all
   survey-marks i [] = refl
   survey-marks i (c ∷ rest) =
       let m = surveyOf q n (suc i) rest .marks in
       by-cases (requested c)
-      (λ t. rw (t, has-with m (slot c)) (stay m (slot c) (requestsOf rest) (survey-marks (suc i) rest)))
+      (λ t. rw (t, has-with m (slotOf (requestOf c))) (stay m (slotOf (requestOf c)) (requestsOf rest) (survey-marks (suc i) rest)))
       (λ f. rw f (survey-marks (suc i) rest))
 
   pub survey-clash : (i : ℕ) (l : List Call) → surveyOf q n i l .clash ≡ false → distinct (requestsOf l) ≡ true
@@ -88,5 +89,5 @@ module _ (q : Asked) (n : ℕ) where
   survey-clash i (c ∷ rest) h =
       let v = surveyOf q n (suc i) rest in
       by-cases (requested c)
-      (λ t. let w = neither (v .clash) (has (v .marks) (slot c)) (rw t at h) in rw (t, other (v .marks) (c .identifier) (requestsOf rest) (w .1) (survey-marks (suc i) rest)) (survey-clash (suc i) rest (w .0)))
+      (λ t. let w = neither (v .clash) (has (v .marks) (slotOf (requestOf c))) (rw t at h) in rw (t, other (v .marks) (c .identifier) (requestsOf rest) (w .1) (survey-marks (suc i) rest)) (survey-clash (suc i) rest (w .0)))
       (λ f. rw f (survey-clash (suc i) rest (rw f at h)))

@@ -4,9 +4,12 @@ use mathlib.Core.Bool.{Bool, true, false, _&&_, _||_}
 use mathlib.Core.List.{List, [], _∷_}
 use lib.Dec.{eqb, ltb}
 use Rattle.ground.specs.Choice.{when_then_else_}
+use Rattle.timed.specs.declared.Pending.{Pending}
+use Rattle.timed.specs.Timed.{waits}
 use Rattle.call.specs.declared.Call.{Call}
-use Rattle.call.specs.Record.{isFree, requested}
+use Rattle.call.specs.Record.{isFree, requestOf, requested}
 use Rattle.call.specs.Soundness.{soundCall}
+use Rattle.remote.specs.declared.Pendings.{Pendings}
 use Rattle.survey.specs.declared.Asked.{Asked}
 use Rattle.survey.specs.declared.Noted.{Noted}
 
@@ -18,9 +21,9 @@ has mask k = eqb (mask / 2 ^ k % 2) 1
 abbrev pub withBit : ℕ → ℕ → ℕ
 withBit mask k = when has mask k then mask else mask + 2 ^ k
 
--- the bit that marks a record's identifier
-abbrev pub slot : Call → ℕ
-slot c = c .identifier % 64
+-- the bit that marks a request's identifier
+abbrev pub slotOf : Pending → ℕ
+slotOf p = p .identifier % 64
 
 -- the lowest free place, with the record c at i before those that were seen
 abbrev pub freeWith : ℕ → Call → ℕ → ℕ
@@ -30,13 +33,13 @@ freeWith free c i = when isFree c then i else free
 abbrev pub dueWith : ℕ → Call → ℕ → ℕ → ℕ
 dueWith due c i by = when requested c && ltb (c .start) by then i else due
 
--- the marks of the open requests' identifiers
-abbrev pub marksWith : ℕ → Call → ℕ
-marksWith marks c = when requested c then withBit marks (slot c) else marks
+-- the marks of the open requests' identifiers, with the request p beside those that were seen
+abbrev pub marksWith : ℕ → Pending → ℕ
+marksWith marks p = when waits p then withBit marks (slotOf p) else marks
 
 -- a mark was set twice
-abbrev pub clashWith : Bool → ℕ → Call → Bool
-clashWith clash marks c = when requested c then clash || has marks (slot c) else clash
+abbrev pub clashWith : Bool → ℕ → Pending → Bool
+clashWith clash marks p = when waits p then clash || has marks (slotOf p) else clash
 
 -- nothing was seen yet of a table of n
 abbrev pub unseenOf : ℕ → Noted
@@ -46,13 +49,27 @@ unseenOf n = record { sound = true; clash = false; free = n; due = n; marks = 0 
 abbrev pub notedOf : Asked → Noted → Call → ℕ → Noted
 notedOf q v c i = record {
   sound = soundCall (q .last) c && v .sound;
-  clash = clashWith (v .clash) (v .marks) c;
+  clash = clashWith (v .clash) (v .marks) (requestOf c);
   free = freeWith (v .free) c i;
   due = dueWith (v .due) c i (q .by);
-  marks = marksWith (v .marks) c;
+  marks = marksWith (v .marks) (requestOf c);
 }
 
 -- what is noted of the records from the place i on, in a table of n
 unfoldable pub surveyOf : Asked → ℕ → ℕ → List Call → Noted
 surveyOf q n i [] = unseenOf n
 surveyOf q n i (c ∷ rest) = notedOf q (surveyOf q n (suc i) rest) c i
+
+-- what is noted with a request that is no record's
+unfoldable pub withPending : Noted → Pending → Noted
+withPending v p = record {
+  sound = v .sound;
+  clash = clashWith (v .clash) (v .marks) p;
+  free = v .free;
+  due = v .due;
+  marks = marksWith (v .marks) p;
+}
+
+-- what is noted with the four requests that a station may hold: document 02, Seven: "so "no two open requests share" covers both tables"
+abbrev pub withFour : Noted → Pendings → Noted
+withFour v p = withPending (withPending (withPending (withPending v (p .activation)) (p .deactivation)) (p .interrogation)) (p .check)

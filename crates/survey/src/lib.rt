@@ -1,11 +1,15 @@
 // The walks over the records that a host lends. `survey`, from the last to the first, notes what a step asks of the whole table in
-// a few numbers; `column`, where it is needed, copies the open identifiers out.
+// a few numbers, to which `with_four` adds the requests that the station holds; `column`, where it is needed, copies the open
+// identifiers out.
 ghost use mathlib.Core.Path.{_≡_};
 ghost use Prim.Native.Nat.{_≤_, _<_};
 ghost use lib.ListN.{length, take};
-ghost use Rattle.survey.specs.Survey.{has, withBit, slot, freeWith, dueWith, marksWith, clashWith, unseenOf, notedOf, surveyOf};
+ghost use Rattle.call.specs.Record.{requestOf};
+ghost use Rattle.survey.specs.Survey.{has, withBit, slotOf, freeWith, dueWith, marksWith, clashWith, unseenOf, notedOf, surveyOf, withPending, withFour};
 ghost use Rattle.notes.specs.Notes.{columnOf};
 use call::Call;
+use remote::Pendings;
+use timed::Pending;
 
 // What is asked beside the table: the station's last time, and the time below which an open request's start is due.
 pub struct Asked {
@@ -42,11 +46,22 @@ fn with_bit(mask: u64, k: u64) -> u64
     mask + notes::bit(k as usize)
 }
 
-// The bit that marks an identifier.
-fn slot(c: Call) -> u64
-    ensures { λ r. ⌜ r ≡ slot c ⌝ }
+// The request of a record.
+fn request_of(c: Call) -> Pending
+    ensures { λ r. ⌜ r ≡ requestOf c ⌝ }
 {
-    (c.identifier % 64) as u64
+    Pending {
+        start: c.start,
+        identifier: c.identifier,
+        wait: c.cds,
+    }
+}
+
+// The bit that marks a request's identifier.
+fn slot_of(p: Pending) -> u64
+    ensures { λ r. ⌜ r ≡ slotOf p ⌝ }
+{
+    (p.identifier % 64) as u64
 }
 
 // The lowest free place from i on, where the one after i is given.
@@ -68,22 +83,22 @@ fn due_with(due: usize, c: Call, i: usize, by: u64) -> usize
 }
 
 // The marks of the open requests.
-fn marks_with(marks: u64, c: Call) -> u64
-    ensures { λ r. ⌜ r ≡ marksWith marks c ⌝ }
+fn marks_with(marks: u64, p: Pending) -> u64
+    ensures { λ r. ⌜ r ≡ marksWith marks p ⌝ }
 {
-    if c.cds == 1 {
-        let k = slot(c);
+    if p.wait == 1 {
+        let k = slot_of(p);
         return with_bit(marks, k);
     }
     marks
 }
 
 // Whether two open requests have one mark.
-fn clash_with(clash: bool, marks: u64, c: Call) -> bool
-    ensures { λ r. ⌜ r ≡ clashWith clash marks c ⌝ }
+fn clash_with(clash: bool, marks: u64, p: Pending) -> bool
+    ensures { λ r. ⌜ r ≡ clashWith clash marks p ⌝ }
 {
-    if c.cds == 1 {
-        let k = slot(c);
+    if p.wait == 1 {
+        let k = slot_of(p);
         let twice = has(marks, k);
         return clash | twice;
     }
@@ -107,11 +122,12 @@ fn unseen(n: usize) -> Noted
 fn note(v: Noted, c: Call, i: usize, q: Asked) -> Noted
     ensures { λ r. ⌜ r ≡ notedOf q v c i ⌝ }
 {
+    let p = request_of(c);
     let well = sound::sound_call(c, q.last);
-    let clash = clash_with(v.clash, v.marks, c);
+    let clash = clash_with(v.clash, v.marks, p);
     let free = free_with(v.free, c, i);
     let due = due_with(v.due, c, i, q.by);
-    let marks = marks_with(v.marks, c);
+    let marks = marks_with(v.marks, p);
     Noted {
         sound: well & v.sound,
         clash: clash,
@@ -135,6 +151,31 @@ pub fn survey(table: &[Call], n: usize, q: Asked) -> Noted
         i = k;
     }
     v
+}
+
+// What is noted with a request that is no record's.
+fn with_pending(v: Noted, p: Pending) -> Noted
+    ensures { λ r. ⌜ r ≡ withPending v p ⌝ }
+{
+    let clash = clash_with(v.clash, v.marks, p);
+    let marks = marks_with(v.marks, p);
+    Noted {
+        sound: v.sound,
+        clash: clash,
+        free: v.free,
+        due: v.due,
+        marks: marks,
+    }
+}
+
+// What is noted with the four requests that a station may hold.
+pub fn with_four(v: Noted, p: Pendings) -> Noted
+    ensures { λ r. ⌜ r ≡ withFour v p ⌝ }
+{
+    let activation = with_pending(v, p.activation);
+    let deactivation = with_pending(activation, p.deactivation);
+    let interrogation = with_pending(deactivation, p.interrogation);
+    with_pending(interrogation, p.check)
 }
 
 // The identifiers of the open requests among the first n records, copied out: each plus 1, and 0 where none is open.

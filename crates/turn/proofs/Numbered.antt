@@ -1,18 +1,19 @@
--- The numbers of an event by its kind: an open, a clock event, an event on a call; and the code's order of the tests, which gives 8 where it gives 4 and has the page's numbers all the same. Assumes nothing.
+-- The numbers of an event by its kind: an open, a clock event, an event on a call, one of kinds 16 to 31; and the code's order of the tests, which gives 8 where it gives 4 and has the page's numbers all the same. Assumes nothing.
 use Prim.Native.Nat.{ℕ, _≤_, _<_}
 use mathlib.Core.Bool.{Bool, true, false, _&&_, _||_, not}
 use mathlib.Core.List.{List}
 use mathlib.Core.Path.{_≡_, refl, sym, ap, _∙_}
 use native.Mathlib.Omega.{arith}
-use borrow.Author.Tests.{ne-eqb, lt-ltb, le-ltb, ltb-true, ltb-false, eqb-true, eqb-false}
+use borrow.Author.Tests.{ne-eqb, lt-ltb, le-ltb, lt-leb, leb-true, ltb-true, ltb-false, eqb-true, eqb-false}
 use lib.Dec.{eqb, ltb, leb}
 use lib.ListN.{length}
 use Rattle.ground.specs.Choice.{when_then_else_}
 use Rattle.ground.specs.Lists.{first}
 use Rattle.ground.proofs.Bools.{by-cases}
-use Rattle.ground.proofs.Walks.{or-false}
+use Rattle.ground.proofs.Walks.{both, and-false, or-false}
 use Rattle.event.specs.declared.Event.{Event}
 use Rattle.event.specs.Kinds.{opens, ofIncoming, ofOutgoing, ends, diverts, answersRequest, clock}
+use Rattle.event.specs.Remote.{ofRemote, remoteFields}
 use Rattle.event.specs.WellMade.{wellMade}
 use Rattle.call.specs.declared.Call.{Call}
 use Rattle.call.specs.declared.Effect.{Effect}
@@ -20,14 +21,15 @@ use Rattle.call.specs.Record.{isFree}
 use Rattle.call.specs.State.{stateForbids}
 use Rattle.call.specs.Incoming.{due, expired}
 use Rattle.call.specs.Act.{act, opened}
+use Rattle.remote.specs.Rules.{noneWaits, remoteRefusal}
 use Rattle.station.specs.declared.Station.{Station}
 use Rattle.station.specs.Table.{at, place, identifierFor}
-use Rattle.station.specs.Refusals.{early, illMade, wrongCall, noSuchCall, notTaken, otherIdentifier, overLimit, noFreeRecord, refusalOnSound}
+use Rattle.station.specs.Refusals.{early, illMade, wrongCall, noSuchCall, notTaken, otherIdentifier, foreignAnswer, overLimit, noFreeRecord, pendingAlready, refusalOnSound}
 use Rattle.station.specs.Step.{effectAt}
 use Rattle.event.proofs.Groups.{opener, no-opener, no-incoming, no-outgoing, past-incoming}
 use Rattle.turn.specs.declared.Seen.{Seen}
-use Rattle.turn.specs.Turn.{beyond, noRecord, numberOf}
-use Rattle.turn.proofs.Sorts.{kind-low, kind-high, names}
+use Rattle.turn.specs.Turn.{beyond, noRecord, numberOf, farNumber}
+use Rattle.turn.proofs.Sorts.{kind-low, far-made, names}
 
 -- two tests with one number
 either : (a b : Bool) (x y : ℕ) → (when a || b then x else y) ≡ (when a then x else when b then x else y)
@@ -49,10 +51,11 @@ numbers s e far c full =
     when early s e then 2 else
     when illMade e then 3 else
     when ((ofIncoming e || ofOutgoing e || ends e) && far) || wrongCall c e then 4 else
-    when stateForbids c e then 5 else
-    when otherIdentifier c e then 6 else
+    when stateForbids c e || noneWaits (s .remote) e then 5 else
+    when foreignAnswer s c e then 6 else
     when overLimit s c e then 7 else
     when opens e && full then 8 else
+    when pendingAlready s e then 9 else
     0
 
 pub by-table : (s : Station) (calls : List Call) (e : Event)
@@ -83,6 +86,8 @@ module _ (s : Station) (e : Event) (far : Bool) (c : Call) (full : Bool) where
             no-incoming e k,
             no-outgoing e (omega arith),
             opener e (kind-low e w) k,
+            lt-leb 16 (e .kind) (omega arith),
+            lt-leb 24 (e .kind) (omega arith),
             ne-eqb (e .kind) 11 (λ q. omega arith),
             ne-eqb (e .kind) 7 (λ q. omega arith),
             ne-eqb (e .kind) 8 (λ q. omega arith),
@@ -95,10 +100,29 @@ module _ (s : Station) (e : Event) (far : Bool) (c : Call) (full : Bool) where
       numbers-clock k = rw (le-ltb (e .time) (s .last) h, w, k)
 
       -- an event on a call
-      pub numbers-named : 4 ≤ e .kind → (e .kind ≡ 10 → ⊥) → numbers s e far c full ≡ (when far then 4 else namedRefusal s c e)
-      numbers-named k o =
-          simp (le-ltb (e .time) (s .last) h, w, names e k (kind-high e w) o, no-opener e k)
+      pub numbers-named : 4 ≤ e .kind → e .kind ≤ 15 → (e .kind ≡ 10 → ⊥) → numbers s e far c full ≡ (when far then 4 else namedRefusal s c e)
+      numbers-named k l o =
+          simp (le-ltb (e .time) (s .last) h, w, names e k l o, no-opener e k, lt-leb 16 (e .kind) (omega arith), lt-leb 24 (e .kind) (omega arith), or-false)
           (either far (wrongCall c e) 4 _)
+
+      -- one of kinds 16 to 31: of the tests of a call's event, none is for it
+      pub numbers-far : ofRemote e ≡ true → numbers s e far c full ≡ remoteRefusal (s .remote) e
+      unfolding stateForbids remoteRefusal
+      numbers-far o =
+          let a : 16 ≤ e .kind = leb-true 16 (e .kind) (both (leb 16 (e .kind)) (leb (e .kind) 31) o .0) in
+          simp (
+            le-ltb (e .time) (s .last) h,
+            w,
+            lt-leb (e .kind) 3 (omega arith),
+            lt-leb (e .kind) 9 (omega arith),
+            lt-leb (e .kind) 14 (omega arith),
+            and-false,
+            ne-eqb (e .kind) 15 (λ q. omega arith),
+            ne-eqb (e .kind) 11 (λ q. omega arith),
+            ne-eqb (e .kind) 6 (λ q. omega arith),
+            ne-eqb (e .kind) 7 (λ q. omega arith),
+            ne-eqb (e .kind) 8 (λ q. omega arith),
+          )
 
 -- the code's order, from 3 on: where the event finds no record of its own, its kind tells the number
 abbrev pub later : Station → Event → Seen → ℕ
@@ -141,13 +165,21 @@ module _ (s : Station) (e : Event) (v : Seen) where
       simp (w, le-ltb (e .kind) 1 (omega arith), le-ltb (e .kind) 4 k, ne-eqb (e .kind) 10 o)
       (either (beyond v) (wrongCall (v .call) e) 4 _)
 
-  pub number-later : s .last ≤ e .time → later s e v ≡ numberOf s e v
-  number-later h =
+  -- kinds 1 to 15
+  pub number-later : (kind : ℕ) → (kind ≡ e .kind) × (kind ≤ 15) × (s .last ≤ e .time) → later s e v ≡ numberOf s e v
+  number-later kind (same, low, h) =
       by-cases (wellMade e) (λ w.
       by-cases (ltb (e .kind) 4)
       (λ t. let k = ltb-true (e .kind) 4 t in later-open w k ∙ sym (by-seen s e v ∙ numbers-open s e (beyond v) (v .call) (beyond v) h w k)) (λ n.
       let k = ltb-false (e .kind) 4 n in
       by-cases (eqb (e .kind) 10)
       (λ t. let q = eqb-true (e .kind) 10 t in later-clock w q ∙ sym (by-seen s e v ∙ numbers-clock s e (beyond v) (v .call) (beyond v) h w q))
-      (λ f. let q = eqb-false (e .kind) 10 f in later-named w k q ∙ sym (by-seen s e v ∙ numbers-named s e (beyond v) (v .call) (beyond v) h w k q))))
+      (λ f. let q = eqb-false (e .kind) 10 f in later-named w k q ∙ sym (by-seen s e v ∙ numbers-named s e (beyond v) (v .call) (beyond v) h w k (omega (arith, same, low)) q))))
       (λ i. rw i (sym (by-seen s e v ∙ numbers-ill s e (beyond v) (v .call) (beyond v) h i)))
+
+  -- kinds 16 to 31
+  pub number-far : s .last ≤ e .time → ofRemote e ≡ true → farNumber s e ≡ numberOf s e v
+  number-far h o =
+      by-cases (remoteFields e)
+      (λ f. rw f (sym (by-seen s e v ∙ numbers-far s e (beyond v) (v .call) (beyond v) h (far-made e o ∙ f) o)))
+      (λ f. rw f (sym (by-seen s e v ∙ numbers-ill s e (beyond v) (v .call) (beyond v) h (far-made e o ∙ f))))

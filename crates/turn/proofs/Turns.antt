@@ -3,20 +3,23 @@ use Prim.Native.Nat.{ℕ, _+_, _≤_, _<_}
 use mathlib.Core.Bool.{Bool, true, false, _&&_, _||_, not, false≢true}
 use mathlib.Core.Path.{_≡_, refl, sym, ap, _∙_}
 use native.Mathlib.Omega.{arith}
-use borrow.Author.Tests.{ltb-true, ltb-false, lt-ltb, le-leb, lt-leb, leb-true, leb-false, eqb-true, eqb-false, ne-eqb}
+use borrow.Author.Tests.{ltb-false, leb-false, eqb-true, eqb-false, ne-eqb}
 use lib.Dec.{eqb, ltb, leb}
 use Rattle.ground.specs.Choice.{when_then_else_}
 use Rattle.ground.proofs.Bools.{by-cases}
+use Rattle.ground.proofs.Walks.{neither}
 use Rattle.event.specs.declared.Event.{Event}
 use Rattle.event.specs.Kinds.{opens, ofIncoming, ofOutgoing, ends}
+use Rattle.event.specs.Remote.{ofRemote}
 use Rattle.event.specs.WellMade.{wellMade}
 use Rattle.call.specs.declared.Call.{Call}
 use Rattle.call.specs.State.{stateForbids}
+use Rattle.remote.specs.Rules.{noneWaits}
 use Rattle.station.specs.declared.Station.{Station}
-use Rattle.station.specs.Refusals.{early, illMade, wrongCall, otherIdentifier, overLimit}
+use Rattle.station.specs.Refusals.{early, illMade, wrongCall, foreignAnswer, overLimit, pendingAlready}
 use Rattle.turn.specs.declared.Seen.{Seen}
 use Rattle.turn.specs.declared.Turn.{Turn}
-use Rattle.turn.specs.declared.Turn.the-variants.{Refused, NoneDue, Done}
+use Rattle.turn.specs.declared.Turn.the-variants.{Refused, Far, Done}
 use Rattle.turn.specs.Turn.{beyond, numberOf, turnOf, doable}
 use Rattle.turn.proofs.Sorts.{kind-low, kind-high}
 use Rattle.turn.proofs.Numbered.{by-seen, numbers-early, numbers-ill}
@@ -35,14 +38,15 @@ not-false : (b : Bool) → not b ≡ false → b ≡ true
 not-false true q = refl
 not-false false q = sym q
 
--- numbers 4 to 8
+-- numbers 4 to 9
 abbrev from-4 : Station → Event → Seen → ℕ
 from-4 s e v =
     when ((ofIncoming e || ofOutgoing e || ends e) && beyond v) || wrongCall (v .call) e then 4 else
-    when stateForbids (v .call) e then 5 else
-    when otherIdentifier (v .call) e then 6 else
+    when stateForbids (v .call) e || noneWaits (s .remote) e then 5 else
+    when foreignAnswer s (v .call) e then 6 else
     when overLimit s (v .call) e then 7 else
     when opens e && beyond v then 8 else
+    when pendingAlready s e then 9 else
     0
 
 module _ (s : Station) (e : Event) (v : Seen) where
@@ -64,13 +68,13 @@ module _ (s : Station) (e : Event) (v : Seen) where
       none : numberOf s e v ≡ 0
       none = sym q ∙ z
 
-      pub turns-none : v .len ≤ v .place → NoneDue ≡ turnOf s e v
+      pub turns-far : ofRemote e || beyond v ≡ true → Far ≡ turnOf s e v
       unfolding turnOf
-      turns-none l = rw (none, le-leb (v .len) (v .place) l)
+      turns-far o = rw (none, o)
 
-      pub turns-there : v .place < v .len → Done ≡ turnOf s e v
+      pub turns-there : ofRemote e || beyond v ≡ false → Done ≡ turnOf s e v
       unfolding turnOf
-      turns-there l = rw (none, lt-leb (v .len) (v .place) l)
+      turns-there o = rw (none, o)
 
       by-two : (early s e ≡ false) × (illMade e ≡ false)
       unfolding numberOf
@@ -83,16 +87,17 @@ module _ (s : Station) (e : Event) (v : Seen) where
       pub room : s .limit < 256 → e .kind ≡ 6 → v .call .counter < 255
       unfolding numberOf
       room l k =
-          let n7 : ℕ = when opens e && beyond v then 8 else 0 in
+          let n8 : ℕ = when pendingAlready s e then 9 else 0 in
+          let n7 : ℕ = when opens e && beyond v then 8 else n8 in
           let n6 : ℕ = when overLimit s (v .call) e then 7 else n7 in
-          let n5 : ℕ = when otherIdentifier (v .call) e then 6 else n6 in
-          let n4 : ℕ = when stateForbids (v .call) e then 5 else n5 in
+          let n5 : ℕ = when foreignAnswer s (v .call) e then 6 else n6 in
+          let n4 : ℕ = when stateForbids (v .call) e || noneWaits (s .remote) e then 5 else n5 in
           let n2 : ℕ = when illMade e then 3 else from-4 s e v in
           let a = passed (early s e) 2 n2 none (λ x. omega (arith, x)) in
           let b = passed (illMade e) 3 (from-4 s e v) (a .1) (λ x. omega (arith, x)) in
           let c = passed (((ofIncoming e || ofOutgoing e || ends e) && beyond v) || wrongCall (v .call) e) 4 n4 (b .1) (λ x. omega (arith, x)) in
-          let d = passed (stateForbids (v .call) e) 5 n5 (c .1) (λ x. omega (arith, x)) in
-          let f = passed (otherIdentifier (v .call) e) 6 n6 (d .1) (λ x. omega (arith, x)) in
+          let d = passed (stateForbids (v .call) e || noneWaits (s .remote) e) 5 n5 (c .1) (λ x. omega (arith, x)) in
+          let f = passed (foreignAnswer s (v .call) e) 6 n6 (d .1) (λ x. omega (arith, x)) in
           let o : overLimit s (v .call) e ≡ false = passed (overLimit s (v .call) e) 7 n7 (f .1) (λ x. omega (arith, x)) .0 in
           let m = ltb-false (s .limit) (v .call .counter + 1) (rw k at o) in
           omega arith
@@ -100,21 +105,21 @@ module _ (s : Station) (e : Event) (v : Seen) where
 -- what a turn tells of its event
 abbrev numberIn : Turn → ℕ
 numberIn (Refused code) = code
-numberIn NoneDue = 0
+numberIn Far = 0
 numberIn Done = 0
 
 abbrev isRefused : Turn → Bool
 isRefused (Refused code) = true
-isRefused NoneDue = false
+isRefused Far = false
 isRefused Done = false
 
 abbrev isDone : Turn → Bool
 isDone (Refused code) = false
-isDone NoneDue = false
+isDone Far = false
 isDone Done = true
 
 module _ (s : Station) (e : Event) (v : Seen) where
-  either-way : (b : Bool) → isRefused (when b then NoneDue else Done) ≡ false
+  either-way : (b : Bool) → isRefused (when b then Far else Done) ≡ false
   either-way true = refl
   either-way false = refl
 
@@ -123,18 +128,21 @@ module _ (s : Station) (e : Event) (v : Seen) where
   unfolding turnOf
   refused-number code q z =
       by-cases (eqb (numberOf s e v) 0)
-      (λ t. false≢true (sym (either-way (beyond v)) ∙ ap isRefused (rw t at q)))
+      (λ t. false≢true (sym (either-way (ofRemote e || beyond v)) ∙ ap isRefused (rw t at q)))
       (λ f. let n : numberOf s e v ≡ code = ap numberIn (rw f at q) in eqb-false (numberOf s e v) 0 f (n ∙ z))
+
+  done-near : turnOf s e v ≡ Done → (ofRemote e ≡ false) × (beyond v ≡ false)
+  unfolding turnOf
+  done-near q =
+      by-cases (eqb (numberOf s e v) 0) (λ t.
+      by-cases (ofRemote e || beyond v)
+      (λ b. absurd (false≢true (ap isDone (rw (t, b) at q))))
+      (λ b. neither (ofRemote e) (beyond v) b))
+      (λ f. absurd (false≢true (ap isDone (rw f at q))))
 
   -- what is done on a record is done on one of the table
   pub done-there : turnOf s e v ≡ Done → v .place < v .len
-  unfolding turnOf
-  done-there q =
-      by-cases (eqb (numberOf s e v) 0) (λ t.
-      by-cases (beyond v)
-      (λ b. absurd (false≢true (ap isDone (rw (t, b) at q))))
-      (λ b. leb-false (v .len) (v .place) b))
-      (λ f. absurd (false≢true (ap isDone (rw f at q))))
+  done-there q = leb-false (v .len) (v .place) (done-near q .1)
 
   done-passes : turnOf s e v ≡ Done → 0 ≡ numberOf s e v
   unfolding turnOf
@@ -145,4 +153,4 @@ module _ (s : Station) (e : Event) (v : Seen) where
   done-doable q l =
       let n = done-passes q in
       let w = made s e v 0 n refl in
-      (kind-low e w, kind-high e w, room s e v 0 n refl l)
+      (kind-low e w, kind-high e (done-near q .0) w, room s e v 0 n refl l)

@@ -2,11 +2,13 @@
 // every driver has this one decision.
 ghost use mathlib.Core.Path.{_≡_};
 ghost use Prim.Native.Nat.{ℕ, _≤_};
-ghost use Rattle.station.specs.Step.{answerOf};
-ghost use Rattle.turn.specs.Turn.{placeOf, noRecord, numberOf, turnOf, actedOf, doable, stationOn};
+ghost use Rattle.station.specs.Step.{answerOf, farAnswer};
+ghost use Rattle.turn.specs.Turn.{placeOf, noRecord, numberOf, farNumber, turnOf, actedOf, doable, stationOn, stationFar};
 use call::Call;
 use call::Effect;
 use event::Event;
+use remote::Moved;
+use remote::Remote;
 use station::Answer;
 use station::Station;
 
@@ -19,11 +21,11 @@ pub struct Seen {
     pub call: Call,
 }
 
-// What becomes of an event: refused, by its number; done with no call, where a clock event finds none due; done on the
-// record at its place, as `acted` says.
+// What becomes of an event: refused, by its number; done on what the station holds, as `follow::step` says (kinds 16 to 31,
+// and a clock event with no T1 request due); done on the record at its place, as `acted` says.
 pub enum Turn {
     Refused(u8),
-    NoneDue,
+    Far,
     Done,
 }
 
@@ -52,10 +54,10 @@ fn no_record(kind: u8) -> u8
     }
 }
 
-// Numbers 3 to 8; 0 is done. Tested in the page's order from 3 to 7; 8 is given where 4 is, by the kind: an open has none of 4
+// Numbers 3 to 8 of kinds 1 to 15; 0 is done. Tested in the page's order from 3 to 7; 8 is given where 4 is, by the kind: an open has none of 4
 // to 7. The kind comes by itself: as a literal it lets the compiler make each arm of `number_by_kind` a test of its own.
 fn number(kind: u8, s: Station, e: Event, seen: Seen) -> u8
-    requires { ⌜ (kind ≡ e .kind) × (s .last ≤ e .time) ⌝ }
+    requires { ⌜ (kind ≡ e .kind) × (kind ≤ 15) × (s .last ≤ e .time) ⌝ }
     ensures { λ r. ⌜ r ≡ numberOf s e seen ⌝ }
 {
     let c = seen.call;
@@ -80,7 +82,20 @@ fn number(kind: u8, s: Station, e: Event, seen: Seen) -> u8
     0
 }
 
-// The number by the event's kind, a literal in each arm.
+// Numbers 3, 5, 6 and 9 of kinds 16 to 31; 0 is done.
+fn far_number(s: Station, e: Event) -> u8
+    ensures { λ r. ⌜ r ≡ farNumber s e ⌝ }
+{
+    let held = s.remote;
+    let made = event::remote_fields(e);
+    if made {
+        follow::remote_refusal(held, e)
+    } else {
+        3
+    }
+}
+
+// The number by the event's kind, a literal in each arm of kinds 1 to 15.
 fn number_by_kind(s: Station, e: Event, seen: Seen) -> u8
     requires { ⌜ s .last ≤ e .time ⌝ }
     ensures { λ r. ⌜ r ≡ numberOf s e seen ⌝ }
@@ -102,6 +117,7 @@ fn number_by_kind(s: Station, e: Event, seen: Seen) -> u8
         13 => number(13, s, e, seen),
         14 => number(14, s, e, seen),
         15 => number(15, s, e, seen),
+        16..=31 => far_number(s, e),
         _ => 3,
     }
 }
@@ -115,15 +131,18 @@ pub fn turned(s: Station, e: Event, seen: Seen) -> Turn
     }
     let code = number_by_kind(s, e, seen);
     if code == 0 {
-        if seen.len <= seen.place {
-            return Turn::NoneDue;
+        let kind = e.kind;
+        let remote = (16 <= kind) & (kind <= 31);
+        let none_due = seen.len <= seen.place;
+        if remote | none_due {
+            return Turn::Far;
         }
         return Turn::Done;
     }
     Turn::Refused(code)
 }
 
-// What an event that is done does to the record at its place. Each arm returns, so that it stores its own result.
+// What an event that is done on a record does to it. Each arm returns, so that it stores its own result.
 pub fn acted(e: Event, seen: Seen) -> Effect
     requires { ⌜ doable e seen ⌝ }
     ensures { λ r. ⌜ r ≡ actedOf e seen ⌝ }
@@ -197,16 +216,26 @@ pub fn acted(e: Event, seen: Seen) -> Effect
     }
 }
 
-// The station after a done event: "the one after it is next", "A done event makes its time the last time."
+// The station after an event that is done on a record: "the one after it is next", "A done event makes its time the last time."
 pub fn station_on(s: Station, e: Event, identifier: u16) -> Station
     ensures { λ r. ⌜ r ≡ stationOn s e identifier ⌝ }
 {
     let mut after = s;
     after.last = e.time;
-    if e.kind == 6 {
+    let kind = e.kind;
+    if (kind == 6) | ((16 <= kind) & (kind <= 19)) {
         after.next = identifier::next_after(identifier);
         return after;
     }
+    after
+}
+
+// The station after one that is done on what it holds, which is r then.
+pub fn station_far(s: Station, e: Event, identifier: u16, r: Remote) -> Station
+    ensures { λ t. ⌜ t ≡ stationFar s e identifier r ⌝ }
+{
+    let mut after = station_on(s, e, identifier);
+    after.remote = r;
     after
 }
 
@@ -223,5 +252,21 @@ pub fn answer_of(i: u8, x: Effect) -> Answer
         number: x.number,
         identifier: x.identifier,
         counter: x.counter,
+    }
+}
+
+// What an event that is done on what the station holds answers.
+pub fn far_answer(m: Moved) -> Answer
+    ensures { λ r. ⌜ r ≡ farAnswer m ⌝ }
+{
+    let sent = message::one(m.message);
+    Answer {
+        code: 0,
+        call: 255,
+        sent: sent,
+        notice: message::NO_NOTICE,
+        number: 0,
+        identifier: m.identifier,
+        counter: 0,
     }
 }

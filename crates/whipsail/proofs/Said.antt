@@ -18,11 +18,11 @@ abbrev pub on-table : List Call → Input → Decision
 on-table ys input = decisionOn (input .station) ys (input .event)
 
 module _ (ys : List Call) (input : Input) (t : Decision) (e₃ : t ≡ on-table ys input) where
-  pub within : t .place + t .count ≤ length ys
+  pub within : t .change .place + t .change .count ≤ length ys
   within = rw e₃ (decision-within (input .station) ys (input .event))
 
   stepped : outcomeBy ys t ≡ outcome ys input
   stepped = ap (outcomeBy ys) e₃ ∙ decision-steps (input .station) ys (input .event)
 
-  pub said : (zs : List Call) → zs ≡ settledAt (t .place) (t .count) (t .call) ys → (t .reply ≡ replyOf ys input) × (zs ≡ tableAfter ys input)
+  pub said : (zs : List Call) → zs ≡ settledAt (t .change .place) (t .change .count) (t .change .call) ys → (t .reply ≡ replyOf ys input) × (zs ≡ tableAfter ys input)
   said zs e₄ = (ap (λ (o : Outcome). record { answer = o .answer; station = o .station }) stepped, e₄ ∙ ap (λ (o : Outcome). o .calls) stepped)

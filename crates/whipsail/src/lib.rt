@@ -21,15 +21,15 @@ pub struct Read {
     pub event: Event,
 }
 
-// A station of this limit, or the answer 3.
+// A station of this limit with these two marks, or the answer 3.
 #[no_mangle]
-pub extern "C" fn whipsail_fresh(limit: u8) -> Made
-    ensures { λ r. ⌜ r ≡ freshOf limit ⌝ }
+pub extern "C" fn whipsail_fresh(limit: u8, enabled: u8, allowed: u8) -> Made
+    ensures { λ r. ⌜ r ≡ freshOf limit enabled allowed ⌝ }
 {
-    station::fresh(limit)
+    station::fresh(limit, enabled, allowed)
 }
 
-// The short form of a fresh station: limit 5.
+// The short form of a fresh station: limit 5, both marks set.
 #[no_mangle]
 pub extern "C" fn whipsail_fresh_short() -> Station
     ensures { λ r. ⌜ r ≡ shortForm ⌝ }
@@ -94,8 +94,9 @@ pub extern "C" fn whipsail_lent_step(table: &mut [Call], input: Input) -> Reply
     ensures { λ r. ⌜ (r ≡ replyOf (now (table .entry)) input) × (now (table .exit) ≡ tableAfter (now (table .entry)) input) ⌝ }
 {
     let out = lent::looked(table, input);
-    slice::settle(table, out.place, out.count, out.call);
-    out.reply
+    let change = lent::change_of(out);
+    slice::settle(table, change.place, change.count, change.call);
+    lent::reply_of(out)
 }
 
 // Who rings if a call is offered to this panel of the plan first: four numbers for each panel.

@@ -4,4 +4,4 @@
 use Prim.Native.Nat.{ℕ}
 
 abbrev pub format : ℕ
-format = 2
+format = 3

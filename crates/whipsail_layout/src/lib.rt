@@ -6,8 +6,8 @@ ghost use Rattle.whipsail_layout.specs.Format.{format};
 
 // The format number of what a host keeps over a restart.
 #[no_mangle]
-pub extern "C" fn whipsail_layout_2() -> u32
+pub extern "C" fn whipsail_layout_3() -> u32
     ensures { λ r. ⌜ r ≡ format ⌝ }
 {
-    2
+    3
 }

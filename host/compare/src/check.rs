@@ -28,7 +28,7 @@ pub fn first_seed() -> u64 {
 
 /// How many events were compared, by the number of their answer.
 #[derive(Clone, Copy, Debug, Default)]
-pub struct Counts(pub [u64; 9]);
+pub struct Counts(pub [u64; 10]);
 
 impl Counts {
     pub fn total(&self) -> u64 {

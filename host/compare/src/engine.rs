@@ -180,8 +180,9 @@ impl Engine {
         u32::from_le_bytes(reply.try_into().expect("four bytes"))
     }
 
-    pub fn fresh(&mut self, limit: u8) -> (u8, Station) {
-        Reader(&self.ask(&[b'F', limit], memory::MADE)).made()
+    pub fn fresh(&mut self, limit: u8, enabled: u8, allowed: u8) -> (u8, Station) {
+        let commands = [b'F', limit, enabled, allowed];
+        Reader(&self.ask(&commands, memory::MADE)).made()
     }
 
     pub fn fresh_short(&mut self) -> Station {

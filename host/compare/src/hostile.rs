@@ -7,27 +7,39 @@ use model::lent::{self, Case};
 use model::random::Random;
 use model::record::{COUNT, FIELDS, PLAIN};
 use model::waits::MOST_LATER;
-use model::{forwarding, Dli1, Event, Record, Station};
+use model::{forwarding, remote_events, station, Dli1, Event, Record, Station};
 
-/// Any value in every field, small ones as often as others.
-fn any_record(random: &mut Random) -> Record {
-    let mut values = [0; COUNT];
-    for (value, (_, width)) in values.iter_mut().zip(FIELDS) {
-        *value = match random.below(3) {
-            0 => 0,
-            1 => random.below(4),
-            _ => random.draw() & (u64::MAX >> (64 - width)),
-        };
-    }
-    Record::from_values(&values)
+/// Any values of these widths, small ones as often as others.
+fn any_values<const N: usize>(random: &mut Random, fields: &[(&str, u32); N]) -> [u64; N] {
+    fields.map(|(_, width)| match random.below(3) {
+        0 => 0,
+        1 => random.below(4),
+        _ => random.draw() & (u64::MAX >> (64 - width)),
+    })
 }
 
+fn any_record(random: &mut Random) -> Record {
+    Record::from_values(&any_values(random, &FIELDS))
+}
+
+/// Any numbers beside what is sound elsewhere, or any at all.
 fn any_station(random: &mut Random) -> Station {
+    let any = Station::from_values(&any_values(random, &station::FIELDS));
+    let sound = lent::station(random);
     Station {
         last_time: random.draw() >> random.below(64),
         next_identifier: random.draw() as u16,
         limit: random.draw() as u8 >> random.below(8),
+        remote: random.pick(&[any.remote, sound.remote]),
     }
+}
+
+/// One bit of one field of the station turned over.
+fn station_bit_turned(random: &mut Random, station: Station) -> Station {
+    let mut values = station.values();
+    let field = random.below(values.len() as u64) as usize;
+    values[field] ^= 1 << random.below(u64::from(station::FIELDS[field].1));
+    Station::from_values(&values)
 }
 
 /// One bit of one field turned over.
@@ -53,8 +65,10 @@ fn place<'a>(random: &mut Random, table: &'a mut [Record]) -> &'a mut Record {
 
 /// Damages a table or its station, mostly: some of it is sound still.
 fn damage(random: &mut Random, table: &mut [Record], station: &mut Station) {
-    match random.below(10) {
+    match random.below(13) {
         _ if table.is_empty() => *station = any_station(random),
+        10 => *station = station_bit_turned(random, *station),
+        11 | 12 => remote_events::damage(random, table, station),
         0 => *station = any_station(random),
         1 => station.limit = random.draw() as u8,
         2 => *place(random, table) = any_record(random),
@@ -218,8 +232,27 @@ fn with_middle(random: &mut Random, table: &[Record], station: Station, record: 
     }
 }
 
+/// A sound table with each edge of each field of its station in turn.
+fn at_every_edge_of_the_station(
+    random: &mut Random,
+    table: &[Record],
+    sound: Station,
+) -> Vec<Case> {
+    let mut cases = Vec::new();
+    for (field, (_, width)) in station::FIELDS.into_iter().enumerate() {
+        for edge in edges(width, &sound) {
+            let mut values = sound.values();
+            values[field] = edge;
+            let station = Station::from_values(&values);
+            cases.push(with_middle(random, table, station, table[1]));
+        }
+    }
+    cases
+}
+
 /// Three sound records, with each edge of each field of the middle one in turn,
-/// which is in Invoked more often than others; and with each wrong one above.
+/// which is in Invoked more often than others; with each wrong one above; and
+/// with each edge of the station.
 pub fn at_every_edge(random: &mut Random) -> Vec<Case> {
     let station = lent::station(random);
     let mut table = lent::table(random, 3, &station);
@@ -234,8 +267,10 @@ pub fn at_every_edge(random: &mut Random) -> Vec<Case> {
             records.push(Record::from_values(&values));
         }
     }
-    records
+    let mut cases: Vec<Case> = records
         .into_iter()
         .map(|record| with_middle(random, &table, station, record))
-        .collect()
+        .collect();
+    cases.extend(at_every_edge_of_the_station(random, &table, station));
+    cases
 }

@@ -13,6 +13,7 @@ pub mod hostile;
 pub mod memory;
 pub mod plans;
 pub mod program;
+pub mod stations;
 pub mod tables;
 pub mod wire;
 pub mod wrapped;

@@ -6,14 +6,15 @@ use model::codes::MOST_RECORDS;
 use model::waits::MOST_LATER;
 use model::{Dli1, Event, Record, Station, Waits};
 
+pub use crate::stations::{put_station, STATION};
+
 /// Sizes of the structs in bytes.
 pub const EVENT: usize = 24;
-pub const STATION: usize = 16;
 pub const CALL: usize = 96;
-pub const BOARD: usize = 6168;
-pub const MADE: usize = 24;
+pub const BOARD: usize = 6240;
+pub const MADE: usize = 96;
 pub const READ: usize = 32;
-pub const RAN: usize = 6192;
+pub const RAN: usize = 6264;
 pub const ANSWER: usize = 64;
 pub const REHEARSED: usize = 6;
 
@@ -31,7 +32,7 @@ pub fn rehearsed(numbers: usize) -> usize {
 }
 
 /// Stands in padding, which nobody may read.
-const PADDING: u8 = 0xEE;
+pub const PADDING: u8 = 0xEE;
 
 pub fn twos(out: &mut Vec<u8>, values: &[u16]) {
     out.extend(values.iter().flat_map(|value| value.to_le_bytes()));
@@ -65,12 +66,6 @@ pub fn put_call(out: &mut Vec<u8>, r: &Record) {
     assert_eq!(out.len() - before, CALL);
 }
 
-pub fn put_station(out: &mut Vec<u8>, s: &Station) {
-    out.extend(s.last_time.to_le_bytes());
-    twos(out, &[s.next_identifier]);
-    out.extend([s.limit, PADDING, PADDING, PADDING, PADDING, PADDING]);
-}
-
 pub fn put_board(out: &mut Vec<u8>, b: &Board) {
     let before = out.len();
     put_station(out, &b.station);
@@ -89,15 +84,15 @@ impl Reader<'_> {
         *taken
     }
 
-    fn skip(&mut self, count: usize) {
+    pub fn skip(&mut self, count: usize) {
         self.0 = &self.0[count..];
     }
 
-    fn one(&mut self) -> u8 {
+    pub fn one(&mut self) -> u8 {
         u8::from_le_bytes(self.take())
     }
 
-    fn two(&mut self) -> u16 {
+    pub fn two(&mut self) -> u16 {
         u16::from_le_bytes(self.take())
     }
 
@@ -105,7 +100,7 @@ impl Reader<'_> {
         u32::from_le_bytes(self.take())
     }
 
-    fn eight(&mut self) -> u64 {
+    pub fn eight(&mut self) -> u64 {
         u64::from_le_bytes(self.take())
     }
 
@@ -126,16 +121,6 @@ impl Reader<'_> {
             third: self.two(),
             time: self.eight(),
         }
-    }
-
-    pub fn station(&mut self) -> Station {
-        let station = Station {
-            last_time: self.eight(),
-            next_identifier: self.two(),
-            limit: self.one(),
-        };
-        self.skip(5);
-        station
     }
 
     /// The answer's number and the station.

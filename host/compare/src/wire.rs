@@ -154,7 +154,7 @@ impl From<&model::Answer> for Answer {
                 destination: message.destination,
                 diverting: message.diverting,
                 original: message.original,
-                number: message.own,
+                number: message.number,
             };
         }
         Answer {

@@ -1,17 +1,17 @@
 //! The Rust wrapper's typed values as the plain ones that are compared.
 
-use crate::plans;
+use crate::memory::Reader;
 use crate::tables::{Laid, Told};
 use crate::wire::{Answer, Message, Rehearsed};
+use crate::{plans, stations};
 use model::Station;
 use std::hint::black_box;
-use whipsail::{Call, Event, Leg, Number, Panel, Plan, Refusal, Rehearsal};
+use whipsail::{Call, Event, Forward, Leg, Number, Panel, Plan, Refusal, Rehearsal};
 
 /// Lends the table by the wrapper, in this process.
 pub fn lend(laid: &Laid) -> Told {
     let mut calls: Vec<Call> = laid.before.iter().copied().map(Call::from_bytes).collect();
-    let s = laid.station;
-    let mut station = whipsail::Station::kept(s.last_time, s.next_identifier, s.limit);
+    let mut station = whipsail::Station::from_bytes(stations::bytes(&laid.station));
     let event = Event::from_bytes(&laid.event.encode());
     let told = station.step(&mut calls[laid.lent()], &event);
     Told {
@@ -63,11 +63,7 @@ fn rehearsed(told: Result<Rehearsal, Refusal>) -> Rehearsed {
 
 /// The plain station.
 pub fn plain(station: &whipsail::Station) -> Station {
-    Station {
-        last_time: station.last(),
-        next_identifier: station.next_identifier(),
-        limit: station.limit(),
-    }
+    Reader(&station.to_bytes()).station()
 }
 
 fn number(number: Option<Number>) -> u16 {
@@ -99,14 +95,29 @@ fn message(message: whipsail::Message) -> Message {
         leg: message.leg().map_or(0, Leg::number),
         ..Message::default()
     };
+    use whipsail::Message as M;
     match message {
-        whipsail::Message::ConnectDli3 {
+        M::ConnectDli3 {
             allowed, number: n, ..
         } => Message {
             flag: u8::from(allowed),
             number: number(n),
             ..bare
         },
+        M::Invoke { .. } | M::Setup { .. } => diverts(message, bare),
+        M::Ask { .. } | M::RemoteResult { .. } => of_no_call(message, bare),
+        M::Result { identifier, .. }
+        | M::Error { identifier, .. }
+        | M::RemoteError { identifier } => Message { identifier, ..bare },
+        // One that the wrapper does not know differs from every message of the model.
+        M::Other(other) => panic!("an unknown message: {other:?}"),
+        _ => bare,
+    }
+}
+
+/// The arguments of I and S.
+fn diverts(message: whipsail::Message, bare: Message) -> Message {
+    match message {
         whipsail::Message::Invoke {
             reason,
             option,
@@ -126,8 +137,6 @@ fn message(message: whipsail::Message) -> Message {
             original: number(original),
             ..bare
         },
-        whipsail::Message::Result { identifier, .. }
-        | whipsail::Message::Error { identifier, .. } => Message { identifier, ..bare },
         whipsail::Message::Setup {
             reason,
             counter,
@@ -143,8 +152,32 @@ fn message(message: whipsail::Message) -> Message {
             original: number(original),
             ..bare
         },
-        // One that the wrapper does not know differs from every message of the model.
-        whipsail::Message::Other(other) => panic!("an unknown message: {other:?}"),
+        _ => bare,
+    }
+}
+
+/// The arguments of a, d, i, c and r.
+fn of_no_call(message: whipsail::Message, bare: Message) -> Message {
+    match message {
+        whipsail::Message::Ask {
+            panel,
+            identifier,
+            ask,
+        } => Message {
+            reason: ask.forward().map_or(0, Forward::number),
+            identifier,
+            destination: number(ask.destination()),
+            number: panel.get(),
+            ..bare
+        },
+        whipsail::Message::RemoteResult {
+            identifier,
+            destination,
+        } => Message {
+            identifier,
+            destination: number(destination),
+            ..bare
+        },
         _ => bare,
     }
 }

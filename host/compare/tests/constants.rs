@@ -16,7 +16,10 @@ type Numbers = BTreeMap<&'static str, u64>;
 /// The number of the last answer to these events, on one record and with limit 1.
 fn answered(lines: &str) -> u8 {
     let bytes = text::encode(lines).expect("events");
-    let (mut table, mut station) = ([Record::default()], Station::fresh(1).expect("a limit"));
+    let (mut table, mut station) = (
+        [Record::default()],
+        Station::fresh(1, 1, 1).expect("a limit"),
+    );
     let records = bytes.chunks_exact(event::SIZE);
     let mut codes = records.map(|record| {
         let event = Event::decode(record.try_into().expect("a record"));
@@ -57,6 +60,25 @@ fn refusals() -> Vec<(&'static str, u8)> {
             "TABLE_FULL",
             answered("open outgoing 1 at 1\nopen outgoing 1 at 1"),
         ),
+        (
+            "ALREADY_ASKED",
+            answered("check request panel 3 at 1\ncheck request panel 3 at 1"),
+        ),
+    ]
+}
+
+/// The sorts of requests to another panel, and their timers.
+fn sorts() -> [(&'static str, u64); 8] {
+    let timer = |sort: usize| codes::TIMERS[sort];
+    [
+        ("ACTIVATION", codes::ACTIVATION as u64),
+        ("DEACTIVATION", codes::DEACTIVATION as u64),
+        ("INTERROGATION", codes::INTERROGATION as u64),
+        ("CHECK", codes::CHECK as u64),
+        ("T2", timer(codes::ACTIVATION)),
+        ("T3", timer(codes::DEACTIVATION)),
+        ("T4", timer(codes::INTERROGATION)),
+        ("T5", timer(codes::CHECK)),
     ]
 }
 
@@ -88,7 +110,7 @@ fn ending(ending: Ending) -> u8 {
 }
 
 /// The model's own names for the numbers of events.
-const CODES: [(&str, u8); 29] = [
+const CODES: [(&str, u8); 45] = [
     ("OPEN_OUTGOING", codes::OPEN_OUTGOING),
     ("OPEN_INCOMING", codes::OPEN_INCOMING),
     ("OPEN_DIVERTED", codes::OPEN_DIVERTED),
@@ -104,6 +126,22 @@ const CODES: [(&str, u8); 29] = [
     ("DLI1", codes::DLI1),
     ("RECEIVED", codes::MESSAGE),
     ("FAR_END", codes::FAR_END),
+    ("ACTIVATION_REQUEST", codes::ACTIVATION_REQUEST),
+    ("DEACTIVATION_REQUEST", codes::DEACTIVATION_REQUEST),
+    ("INTERROGATION_REQUEST", codes::INTERROGATION_REQUEST),
+    ("CHECK_REQUEST", codes::CHECK_REQUEST),
+    ("ACTIVATION_INVOKE", codes::ACTIVATION_INVOKE),
+    ("DEACTIVATION_INVOKE", codes::DEACTIVATION_INVOKE),
+    ("INTERROGATION_INVOKE", codes::INTERROGATION_INVOKE),
+    ("CHECK_INVOKE", codes::CHECK_INVOKE),
+    ("ACTIVATION_RESULT", codes::ACTIVATION_RESULT),
+    ("DEACTIVATION_RESULT", codes::DEACTIVATION_RESULT),
+    ("INTERROGATION_RESULT", codes::INTERROGATION_RESULT),
+    ("CHECK_RESULT", codes::CHECK_RESULT),
+    ("ACTIVATION_ERROR", codes::ACTIVATION_ERROR),
+    ("DEACTIVATION_ERROR", codes::DEACTIVATION_ERROR),
+    ("INTERROGATION_ERROR", codes::INTERROGATION_ERROR),
+    ("CHECK_ERROR", codes::CHECK_ERROR),
     ("UNKNOWN", codes::UNKNOWN),
     ("CFU", codes::CFU),
     ("CFB", codes::CFB),
@@ -147,6 +185,7 @@ fn expected() -> Numbers {
     let small = small.map(|(name, number)| (name, u64::from(number)));
     small
         .chain(sizes_and_none())
+        .chain(sorts())
         .chain(of_the_archives())
         .collect()
 }

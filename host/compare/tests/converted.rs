@@ -1,11 +1,12 @@
 //! A record that was kept under format 1, as `layouts/format_1.txt` has it, is read by
-//! the wrapper as the record that it was.
+//! the wrapper as the record that it was; a station of formats 1 and 2 with the marks
+//! that it is given.
 #![forbid(unsafe_code)]
 
 use compare::engine::host;
-use compare::memory;
+use compare::{memory, wrapped};
 use model::random::Random;
-use model::{lent, Record};
+use model::{lent, Record, Remote, Station};
 use std::collections::BTreeMap;
 use std::fs;
 use whipsail::Call;
@@ -82,6 +83,25 @@ fn kept(places: &Places, record: &Record) -> [u8; 40] {
         put(base, format!("{of} {field}"), value);
     }
     bytes
+}
+
+/// In formats 1 and 2 a station was the first 16 bytes of today's.
+#[test]
+fn a_station_of_format_2_is_read_with_its_marks() {
+    let mut random = Random::new(2);
+    for round in 0..1_000 {
+        let station = lent::station(&mut random);
+        let mut bytes = Vec::new();
+        memory::put_station(&mut bytes, &station);
+        let first = *bytes.first_chunk().expect("16 bytes");
+        let (enabled, allowed) = (round % 2 == 1, round % 4 > 1);
+        let read = whipsail::Station::from_format_2(first, enabled, allowed);
+        let expected = Station {
+            remote: Remote::fresh(enabled.into(), allowed.into()),
+            ..station
+        };
+        assert_eq!(wrapped::plain(&read), expected);
+    }
 }
 
 #[test]

@@ -15,14 +15,18 @@ fn each(test: impl Fn(&mut Engine)) {
 }
 
 #[test]
-fn fresh_stations_of_every_limit() {
+fn fresh_stations_of_every_limit_and_mark() {
     each(|engine| {
-        for limit in 0..=255 {
-            let expected = match Station::fresh(limit) {
+        let marks = [(0, 0), (0, 1), (1, 0), (1, 1), (1, 2), (255, 0)];
+        let limits = (0..=255).flat_map(|limit| marks.map(|(e, a)| (limit, e, a)));
+        let every_mark = (0..=255).flat_map(|mark| [(15, mark, 1), (1, 0, mark), (0, mark, mark)]);
+        for (limit, enabled, allowed) in limits.chain(every_mark) {
+            let expected = match Station::fresh(limit, enabled, allowed) {
                 Ok(station) => (0, station),
                 Err(code) => (code, Station::default()),
             };
-            assert_eq!(engine.fresh(limit), expected, "limit {limit}");
+            let found = engine.fresh(limit, enabled, allowed);
+            assert_eq!(found, expected, "limit {limit}, marks {enabled} {allowed}");
         }
         assert_eq!(engine.fresh_short(), Station::short());
     });

@@ -9,6 +9,7 @@ use model::codes::*;
 use model::plan::{rehearse, Ending, Panel, Rehearsed};
 use model::profile::Profile;
 use model::random::Random;
+use model::station_sound::station_sound;
 use model::{step, Answer, Event, Record, Station};
 
 /// The text of the events in a report.
@@ -117,6 +118,9 @@ fn a_number_shown_once() {
 /// Takes any T1 start.
 fn any_start(table: &mut [Record], station: &mut Station, event: &Event) -> Answer {
     let last = station.last_time;
+    if !station_sound(station) {
+        return step(table, station, event);
+    }
     station.last_time = u64::MAX;
     let sound = model::sound::lent_sound(table, station);
     station.last_time = last;

@@ -37,7 +37,7 @@ fn header(archive: Archive) -> BTreeMap<String, Layout> {
             structs.insert(current.clone(), (number(1), Vec::new()));
         }
     }
-    assert_eq!(structs.len(), 15, "{structs:?}");
+    assert_eq!(structs.len(), 19, "{structs:?}");
     structs
 }
 
@@ -197,12 +197,16 @@ fn touched(body: &str) -> Vec<(usize, Places)> {
 /// A function that stores or copies each field of a struct by itself. Structs of
 /// structs have none: of those some function touches every field, perhaps in
 /// parts, and nothing across two fields.
-const PLACES: [(&str, &str); 11] = [
+const PLACES: [(&str, &str); 15] = [
     ("event", "whipsail::no_event"),
     ("dli1", "waits::no_waits"),
     ("waits", "waits::no_waits"),
     ("history", "call::free_call"),
     ("call", "call::free_call"),
+    ("pending", "timed::idle"),
+    ("pendings", "remote::fresh"),
+    ("kept", "remote::fresh"),
+    ("remote", "remote::fresh"),
     ("station", "station::fresh_short"),
     ("message", "call::no_message"),
     ("answer", "station::empty_answer"),

@@ -55,7 +55,20 @@ fn expected(kind: u8, cdf: u8) -> &'static str {
 /// Whether an event is about an incoming call, or none of the outgoing ones.
 fn is_incoming(kind: u8, record: Option<&Call>) -> bool {
     let outgoing = record.is_some_and(|call| call.direction() == Some(Direction::Outgoing));
-    !matches!(kind, REROUTE..=MESSAGE) && (kind != OWN_END || !outgoing)
+    kind <= FAR_END && !matches!(kind, REROUTE..=MESSAGE) && (kind != OWN_END || !outgoing)
+}
+
+/// Kinds 16 to 31 send a small letter, which has no leg, or nothing.
+fn of_no_call(kind: u8, letters: &str) {
+    let may: &[&str] = match kind {
+        ACTIVATION_REQUEST => &["a0"],
+        DEACTIVATION_REQUEST => &["d0"],
+        INTERROGATION_REQUEST => &["i0"],
+        CHECK_REQUEST => &["c0"],
+        ACTIVATION_INVOKE..=CHECK_INVOKE => &["r0", "e0"],
+        _ => &[""],
+    };
+    assert!(may.contains(&letters), "kind {kind}: {letters}");
 }
 
 #[test]
@@ -63,7 +76,10 @@ fn letters_arguments_and_incoming_calls() {
     let mut seen: BTreeMap<String, BTreeSet<String>> = BTreeMap::new();
     let mut sent_by: BTreeMap<u8, BTreeSet<String>> = BTreeMap::new();
     for (seed, profile) in (1..).zip(profile::ALL) {
-        let (mut table, mut station) = ([Call::FREE; 64], Station::fresh(15).expect("a limit"));
+        let (mut table, mut station) = (
+            [Call::FREE; 64],
+            Station::fresh(15, true, true).expect("a limit"),
+        );
         for event in profile::events(profile, seed, 20_000) {
             let record = table.get(usize::from(event.call)).copied();
             let event_in_rust = Event::from_bytes(&event.encode());
@@ -80,6 +96,9 @@ fn letters_arguments_and_incoming_calls() {
                 seen.entry(letter.to_string())
                     .or_default()
                     .extend(arguments);
+            }
+            if event.kind > FAR_END {
+                of_no_call(event.kind, &letters);
             }
             if is_incoming(event.kind, record.as_ref()) {
                 let cdf = record.map_or(0, |call| call.to_bytes()[5]);

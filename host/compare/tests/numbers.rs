@@ -8,7 +8,9 @@ use compare::{headers, Archive};
 use std::fs;
 
 /// What a host keeps over a restart.
-const KEPT: [&str; 5] = ["dli1", "history", "waits", "call", "station"];
+const KEPT: [&str; 9] = [
+    "dli1", "history", "waits", "call", "pending", "pendings", "kept", "remote", "station",
+];
 
 /// The lines of some structs: one for the struct, and below it one for each field.
 fn of_structs(layout: &str, wanted: &[&str]) -> String {

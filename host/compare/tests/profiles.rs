@@ -91,6 +91,11 @@ fn chain() {
 }
 
 #[test]
+fn remote() {
+    run(Profile::Remote);
+}
+
+#[test]
 fn these_are_all_profiles() {
-    assert_eq!(profile::ALL.len(), 8);
+    assert_eq!(profile::ALL.len(), 9);
 }

@@ -118,7 +118,8 @@ fn lists_in_place() {
     for profile in profile::ALL {
         let mut walk = Walk::new(profile, first_seed());
         let mut table = [Call::FREE; MOST_RECORDS];
-        let mut station = whipsail::Station::fresh(panel::LIMIT).expect("a limit of 1 to 15");
+        let mut station =
+            whipsail::Station::fresh(panel::LIMIT, true, true).expect("a limit of 1 to 15");
         for at in 0..LIST {
             let (event, answer) = walk.advance();
             let told = station.step(&mut table, &Event::from_bytes(&event.encode()));

@@ -3,7 +3,7 @@
 #![forbid(unsafe_code)]
 
 use compare::Archive;
-use whipsail::{Ending, Event, Message, PlainMessage, Reason, Refusal};
+use whipsail::{Ask, Ending, Event, Forward, Message, Number, PlainMessage, Reason, Refusal};
 
 /// The wrapper's words for a number.
 fn words(of_what: &str, number: u8) -> &'static str {
@@ -60,12 +60,35 @@ fn an_error_shows_its_text() {
 #[test]
 fn a_message_says_its_letter() {
     let leg = whipsail::Leg::One;
-    for known in [
+    let (forward, destination) = (Forward::Cfu, Number::MIN);
+    let asks = [
+        Ask::Activation {
+            forward,
+            destination,
+        },
+        Ask::Deactivation { forward },
+        Ask::Interrogation { forward },
+        Ask::Check,
+    ];
+    let (panel, identifier) = (Number::MIN, 9);
+    let sent = asks.map(|ask| Message::Ask {
+        panel,
+        identifier,
+        ask,
+    });
+    let destination = Some(destination);
+    let known = [
+        Message::RemoteResult {
+            identifier,
+            destination,
+        },
+        Message::RemoteError { identifier },
         Message::Alerting { leg },
         Message::Connect { leg },
         Message::ReleaseComplete { leg },
         Message::LegFailed { leg },
-    ] {
+    ];
+    for known in sent.into_iter().chain(known) {
         assert_eq!(known.text(), words("letter", known.letter() as u8));
     }
 }

@@ -100,7 +100,7 @@ fn by_the_wrapper_in_place() {
     for seed in first_seed()..first_seed() + 50 {
         let (mut table, mut station) = ([Record::default()], panel::start().1);
         let mut calls_lent = [Call::FREE];
-        let mut lent = whipsail::Station::fresh(panel::LIMIT).expect("a limit");
+        let mut lent = whipsail::Station::fresh(panel::LIMIT, true, true).expect("a limit");
         for event in calls(seed) {
             let before = table;
             let answer = step(&mut table, &mut station, &event);

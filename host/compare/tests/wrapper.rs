@@ -1,10 +1,12 @@
-//! What the wrapper's readers say of a record is what the model holds.
+//! What the wrapper's readers say of a record and of a station is what the model
+//! holds.
 #![forbid(unsafe_code)]
 
-use compare::memory;
+use compare::{memory, stations, wrapped};
+use model::codes::{CFU, TIMERS};
 use model::random::Random;
-use model::{lent, Dli1, Record};
-use whipsail::{Basic, Call, Direction, Number, Reason};
+use model::{lent, Dli1, Record, Station};
+use whipsail::{Basic, Call, Direction, Forward, Number, Reason, Sort};
 
 fn read(record: &Record) -> Call {
     let mut bytes = Vec::new();
@@ -52,6 +54,43 @@ fn same(record: &Record, call: &Call) {
     }
     let granted = record.is_granted().then_some(record.reason);
     assert_eq!(call.granted().map(Reason::number), granted);
+}
+
+fn same_station(station: &Station, read: &whipsail::Station) {
+    let remote = &station.remote;
+    assert_eq!(read.last(), station.last_time);
+    assert_eq!(read.next_identifier(), station.next_identifier);
+    assert_eq!(read.limit(), station.limit);
+    assert_eq!(read.is_enabled(), remote.enabled == 1);
+    assert_eq!(read.is_allowed(), remote.allowed == 1);
+    for forward in Forward::ALL {
+        let kept = remote.kept[usize::from(forward.number() - CFU)];
+        assert_eq!(read.destination(forward), Number::new(kept));
+    }
+    for sort in Sort::ALL {
+        let at = usize::from(sort.number());
+        let pending = remote.pending[at];
+        let found = read
+            .pending(sort)
+            .map(|found| (found.identifier, found.start));
+        let expected = pending
+            .waits()
+            .then_some((pending.identifier, pending.start));
+        assert_eq!(found, expected);
+        assert_eq!(sort.time(), TIMERS[at]);
+    }
+}
+
+#[test]
+fn readers_say_what_a_station_holds() {
+    let mut random = Random::new(2);
+    for _ in 0..5_000 {
+        let station = lent::station(&mut random);
+        let read = whipsail::Station::from_bytes(stations::bytes(&station));
+        same_station(&station, &read);
+        assert_eq!(wrapped::plain(&read), station);
+        assert_eq!(whipsail::Station::from_bytes(read.to_bytes()), read);
+    }
 }
 
 #[test]

@@ -5,7 +5,8 @@
 use compare::headers;
 use model::profile::{self, Profile};
 use std::collections::BTreeMap;
-use whipsail::{Choice, Dli3, Ending, Event, Kind, Leg, Reason, Received, Refusal};
+use whipsail::{Ask, Choice, Dli3, Ending, Event, Forward, Kind, Leg, Number, Reason, Received};
+use whipsail::{Refusal, Sort};
 
 /// The byte of an event's record at a place.
 fn byte(kind: Kind, place: usize) -> u8 {
@@ -30,16 +31,79 @@ const KINDS: [&str; 15] = [
     "FAR_END",
 ];
 
-/// The number of each kind, by the name under which the wrapper reads its records.
+/// The number of each kind of a call, by the name under which the wrapper reads its
+/// records.
 fn numbers() -> BTreeMap<String, u8> {
     let events = profile::events(Profile::Mixed, 1, 5_000);
+    let of_call = |event: &&model::Event| event.kind <= model::codes::FAR_END;
     let well_made = events.iter().filter(|event| event.well_made());
     let read = |event: &model::Event| {
         let shown = format!("{:?}", Event::from_bytes(&event.encode()).kind);
         let name = shown.split(|c: char| !c.is_alphanumeric()).next();
         (name.unwrap_or_default().to_string(), event.kind)
     };
-    well_made.map(read).collect()
+    well_made.filter(of_call).map(read).collect()
+}
+
+/// The kinds of no call, of each sort.
+fn of_no_call(sort: Sort) -> [(&'static str, Kind); 4] {
+    let (panel, forward, identifier) = (Number::MIN, Forward::Cfu, 9);
+    let destination = (sort == Sort::Interrogation).then_some(panel);
+    let ask = match sort {
+        Sort::Activation => Ask::Activation {
+            forward,
+            destination: panel,
+        },
+        Sort::Deactivation => Ask::Deactivation { forward },
+        Sort::Interrogation => Ask::Interrogation { forward },
+        Sort::Check => Ask::Check,
+    };
+    let asked = Kind::Asked {
+        panel,
+        identifier,
+        ask,
+    };
+    let result = Kind::RemoteResult {
+        sort,
+        identifier,
+        destination,
+    };
+    [
+        ("REQUEST", Kind::Ask { panel, ask }),
+        ("INVOKE", asked),
+        ("RESULT", result),
+        ("ERROR", Kind::RemoteError { sort, identifier }),
+    ]
+}
+
+/// The name of a sort in the headers, and of its timer.
+fn sort_names(sort: Sort) -> (&'static str, &'static str) {
+    match sort {
+        Sort::Activation => ("ACTIVATION", "T2"),
+        Sort::Deactivation => ("DEACTIVATION", "T3"),
+        Sort::Interrogation => ("INTERROGATION", "T4"),
+        Sort::Check => ("CHECK", "T5"),
+    }
+}
+
+#[test]
+fn each_sort_and_type_has_the_headers_number() {
+    let is = |name: String, number: u64| {
+        let name = format!("WHIPSAIL_{name}");
+        assert_eq!(headers::number(&name), number, "{name}");
+    };
+    for sort in Sort::ALL {
+        let (name, timer) = sort_names(sort);
+        is(name.to_string(), sort.number().into());
+        is(timer.to_string(), sort.time());
+        for (role, kind) in of_no_call(sort) {
+            assert!(Event::at(0, kind).is_well_made(), "{kind:?}");
+            is(format!("{name}_{role}"), byte(kind, 0).into());
+        }
+    }
+    for (name, forward) in ["CFU", "CFB", "CFNR"].into_iter().zip(Forward::ALL) {
+        is(name.to_string(), forward.number().into());
+    }
 }
 
 /// `LEG_FAILED` is `LegFailed` in Rust.
@@ -85,6 +149,7 @@ fn codes() -> Vec<(&'static str, u8)> {
         ("OTHER_IDENTIFIER", Refusal::OtherIdentifier.number()),
         ("OVER_LIMIT", Refusal::OverLimit.number()),
         ("TABLE_FULL", Refusal::TableFull.number()),
+        ("ALREADY_ASKED", Refusal::AlreadyAsked.number()),
         ("UNKNOWN", Reason::Unknown.number()),
         ("CFU", Reason::Cfu.number()),
         ("CFB", Reason::Cfb.number()),

@@ -8,10 +8,13 @@ use std::fmt;
 pub struct Message {
     /// A ALERTING, C CONNECT, D CONNECT with DLI3, I callRerouting invoke,
     /// R result, E error, X RELEASE COMPLETE, S SETUP with DLI2,
-    /// F cfnrDivertedLegFailed.
+    /// F cfnrDivertedLegFailed; of document 02, Seven, the invokes of
+    /// a activation, d deactivation, i interrogation, c check, and r result,
+    /// e error.
     pub letter: char,
+    /// 0 of a small letter.
     pub leg: u8,
-    /// I, S.
+    /// I, S; a, d, i: the type.
     pub reason: u8,
     /// I.
     pub option: u8,
@@ -19,16 +22,17 @@ pub struct Message {
     pub counter: u8,
     /// D: 1 presentation allowed.
     pub flag: u8,
-    /// I, R, E.
+    /// I, R, E and every small letter.
     pub identifier: u16,
-    /// I: where to divert; S: the called party.
+    /// I, a: where to divert; S: the called party; r of an interrogation: the
+    /// kept destination.
     pub destination: u16,
     /// I: the last rerouting number; S: the diverting number.
     pub diverting: u16,
     /// I, S: the original called number.
     pub original: u16,
-    /// D: the own number, if allowed.
-    pub own: u16,
+    /// D: the own number, if allowed; a, d, i, c: the far panel.
+    pub number: u16,
 }
 
 impl Message {
@@ -45,7 +49,7 @@ impl Message {
             destination: 0,
             diverting: 0,
             original: 0,
-            own: 0,
+            number: 0,
         }
     }
 
@@ -62,7 +66,7 @@ impl Message {
 /// unknown) and identifier 0 are values.
 #[derive(Clone, Debug, Default, PartialEq, Eq, Hash)]
 pub struct Answer {
-    /// 0 done, 1 to 8 refused.
+    /// 0 done, 1 to 9 refused.
     pub code: u8,
     pub call: Option<u8>,
     pub messages: Vec<Message>,
@@ -99,6 +103,16 @@ impl Answer {
         }
     }
 
+    /// A done event of document 02, Seven, which names no call: "Answers echo
+    /// the identifier", and our own invokes have one.
+    pub fn without_call(message: Message) -> Answer {
+        Answer {
+            identifier: Some(message.identifier),
+            messages: vec![message],
+            ..Answer::default()
+        }
+    }
+
     /// The line of the panel printout for the event at this position.
     pub fn line(&self, position: usize) -> String {
         format!("{position} {self}")
@@ -125,8 +139,12 @@ impl fmt::Display for Answer {
         if self.messages.is_empty() {
             return f.write_str("-");
         }
-        self.messages
-            .iter()
-            .try_for_each(|message| write!(f, "{}{}", message.letter, message.leg))
+        self.messages.iter().try_for_each(|message| {
+            // "a, d, i, c for the invokes, r and e for answers, no leg"
+            match message.letter.is_ascii_lowercase() {
+                true => write!(f, "{}", message.letter),
+                false => write!(f, "{}{}", message.letter, message.leg),
+            }
+        })
     }
 }

@@ -148,6 +148,32 @@ fn row_of_received(kind: u8) -> Option<Row> {
     })
 }
 
+/// "16 to 23 use first (far panel, not 0), reason (type 1 to 3) except in a
+/// check, and in activation second (destination, not 0); 20 to 31 use
+/// identifier, 26 also second (not 0)." (02, Seven)
+fn row_of_remote(kind: u8) -> Option<Row> {
+    if !(ACTIVATION_REQUEST..=CHECK_ERROR).contains(&kind) {
+        return None;
+    }
+    let mut row = NOTHING;
+    if kind <= CHECK_INVOKE {
+        row.first = Number::NotZero;
+        if !matches!(kind, CHECK_REQUEST | CHECK_INVOKE) {
+            row.reason = (CFU, CFNR);
+        }
+    }
+    if kind >= ACTIVATION_INVOKE {
+        row.identifier = Number::Any;
+    }
+    if matches!(
+        kind,
+        ACTIVATION_REQUEST | ACTIVATION_INVOKE | INTERROGATION_RESULT
+    ) {
+        row.second = Number::NotZero;
+    }
+    Some(row)
+}
+
 impl Row {
     fn fits(&self, event: &Event) -> bool {
         let within = |value: u8, range: Range| range.0 <= value && value <= range.1;
@@ -209,10 +235,11 @@ impl Event {
         bytes
     }
 
-    /// A kind of 1 to 15 whose fields agree with the page's table.
+    /// A kind of 1 to 31 whose fields agree with the page's table.
     pub fn well_made(&self) -> bool {
         row_of_opens_and_users(self.kind)
             .or_else(|| row_of_received(self.kind))
+            .or_else(|| row_of_remote(self.kind))
             .is_some_and(|row| row.fits(self))
             && (self.kind != MESSAGE || self.message_fits())
     }

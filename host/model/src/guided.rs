@@ -5,6 +5,7 @@ use crate::codes::*;
 use crate::event::Event;
 use crate::random::Random;
 use crate::record::Record;
+use crate::remote_events;
 
 /// A choice of events with their weights.
 type Choice = (u64, Event);
@@ -234,6 +235,9 @@ pub fn open_handed(random: &mut Random, event: Event) -> Event {
 
 /// A well-made event of any kind about any call, near the table or past it.
 pub fn any_well_made(random: &mut Random, table: &[Record]) -> Event {
+    if random.chance(30) {
+        return remote_events::any(random);
+    }
     let leg = random.byte(1, 2);
     let reason = random.byte(CFU, CFNR);
     let kind = random.byte(OPEN_OUTGOING, FAR_END);
@@ -268,7 +272,7 @@ pub fn bent(random: &mut Random, event: Event) -> Event {
         0 => 0,
         1 => random.draw() as u8,
         2 => bytes[at].wrapping_sub(1),
-        3 => random.pick(&[3, 4, 15, 16, 255]),
+        3 => random.pick(&[3, 4, 15, 16, 31, 32, 255]),
         _ => bytes[at].wrapping_add(1),
     };
     Event::decode(&bytes)
@@ -280,7 +284,7 @@ pub fn wild(random: &mut Random) -> Event {
     for byte in &mut bytes[..16] {
         *byte = match random.below(3) {
             0 => 0,
-            1 => random.byte(0, 16),
+            1 => random.byte(0, 33),
             _ => random.draw() as u8,
         };
     }

@@ -5,7 +5,7 @@ use crate::codes::*;
 use crate::event::Event;
 use crate::record::Record;
 use crate::sound::reason_fits;
-use crate::station::{self, Station};
+use crate::station::Station;
 
 /// "Messages of incoming calls bear leg 1."
 const LEG: u8 = 1;
@@ -94,7 +94,7 @@ fn answer(record: &mut Record, flag: u8) -> Message {
     record.cdf = CDF_DONE;
     Message {
         flag,
-        own: if flag == 1 { record.own } else { 0 },
+        number: if flag == 1 { record.own } else { 0 },
         ..Message::plain('D', LEG)
     }
 }
@@ -109,9 +109,7 @@ fn grant(record: &mut Record) {
 
 /// Kind 6: sends the invoke, enters Requested and starts T1.
 fn divert(table: &mut [Record], station: &mut Station, event: &Event) -> Message {
-    let identifier = station.free_identifier(table);
-    // "the one after it is next"
-    station.next_identifier = station::after(identifier);
+    let identifier = station.draw_identifier(table);
     let record = &mut table[usize::from(event.call)];
     record.cds = REQUESTED;
     record.reason = event.reason;
@@ -143,17 +141,15 @@ fn original_called(record: &Record) -> u16 {
 
 /// Kind 10: "of the records Requested with time minus start at least 10,000,
 /// the lowest ends as by a reject and the answer names call and identifier".
-pub fn clock(table: &mut [Record], time: u64) -> Answer {
-    let due = table
+/// Nothing where none is due.
+pub fn expire(table: &mut [Record], time: u64) -> Option<Answer> {
+    let at = table
         .iter()
-        .position(|r| r.is_requested() && time.saturating_sub(r.start) >= T1);
-    let Some(at) = due else {
-        return Answer::default();
-    };
+        .position(|r| r.is_requested() && time.saturating_sub(r.start) >= T1)?;
     let identifier = table[at].identifier;
     end_request(&mut table[at]);
-    Answer {
+    Some(Answer {
         identifier: Some(identifier),
         ..Answer::done(at as u8, vec![])
-    }
+    })
 }

@@ -7,6 +7,7 @@ use crate::forwarding;
 use crate::guided;
 use crate::random::Random;
 use crate::record::{Record, COUNT, FIELDS, PLAIN};
+use crate::remote_events;
 use crate::station::{self, Station};
 
 /// One lent table and station with one event for them.
@@ -81,6 +82,15 @@ fn further(identifier: u16, places: u64) -> u16 {
     (0..places).fold(identifier, |id, _| station::after(id))
 }
 
+/// The first identifier from this one on that none of the station's own
+/// requests has.
+fn beside(station: &Station, mut identifier: u16) -> u16 {
+    while station.remote.has_open(identifier) {
+        identifier = station::after(identifier);
+    }
+    identifier
+}
+
 /// A sound station, with times from 0 to the end of all time.
 pub fn station(random: &mut Random) -> Station {
     let last_time = match random.below(12) {
@@ -92,10 +102,12 @@ pub fn station(random: &mut Random) -> Station {
     let near_wrap = further(65_500, random.below(72));
     let anywhere = 1 + random.below(65_535) as u16;
     let any_limit = random.byte(1, MOST_DIVERSIONS);
+    let next_identifier = random.pick(&[near_wrap, near_wrap, anywhere]);
     Station {
         last_time,
-        next_identifier: random.pick(&[near_wrap, near_wrap, anywhere]),
+        next_identifier,
         limit: random.weighted(&[(5, 15), (3, 14), (4, any_limit)]),
+        remote: remote_events::remote(random, last_time, next_identifier),
     }
 }
 
@@ -113,6 +125,7 @@ pub fn table(random: &mut Random, length: usize, station: &Station) -> Vec<Recor
             if random.chance(45) {
                 return outgoing(random);
             }
+            identifier = beside(station, identifier);
             let record = incoming(random, station.last_time, identifier);
             if record.is_requested() {
                 identifier = further(identifier, random.pick(&[1, 1, 1, 2, 900]));
@@ -120,6 +133,20 @@ pub fn table(random: &mut Random, length: usize, station: &Station) -> Vec<Recor
             record
         })
         .collect()
+}
+
+/// Sixty-four calls, each with an open request.
+fn crowded(random: &mut Random, station: &Station) -> Vec<Record> {
+    let mut identifier = station.next_identifier;
+    let mut requested = || loop {
+        identifier = beside(station, identifier);
+        let record = incoming(random, station.last_time, identifier);
+        if record.is_requested() {
+            identifier = station::after(identifier);
+            return record;
+        }
+    };
+    (0..MOST_RECORDS).map(|_| requested()).collect()
 }
 
 /// Lengths 0 to 66, mostly short ones.
@@ -133,9 +160,12 @@ pub fn length(random: &mut Random) -> usize {
     }
 }
 
-/// Changes one field of one record, or the station's limit or next identifier.
+/// Changes one field of one record or of the station.
 /// What comes out is mostly, but not always, unsound.
 pub fn damage(random: &mut Random, table: &mut [Record], station: &mut Station) {
+    if random.chance(20) {
+        return remote_events::damage(random, table, station);
+    }
     if table.is_empty() || random.chance(12) {
         match random.chance(60) {
             true => station.limit = random.pick(&[0, 16, 17, 255]),
@@ -203,6 +233,9 @@ fn open_identifier_0(table: &mut [Record]) {
 /// A sound table of 1 to 64 records and its station.
 pub fn sound_start(random: &mut Random) -> (Vec<Record>, Station) {
     let station = station(random);
+    if random.chance(3) {
+        return (crowded(random, &station), station);
+    }
     let length = length(random).clamp(1, MOST_RECORDS);
     (table(random, length, &station), station)
 }
@@ -222,15 +255,16 @@ pub fn start(random: &mut Random) -> (Vec<Record>, Station) {
 
 /// One event for a table: mostly one that suits it.
 pub fn event(random: &mut Random, table: &[Record], station: &Station) -> Event {
-    let event = match random.below(20) {
+    let event = match random.below(29) {
+        21.. => remote_events::about_the_station(random, table, station),
         0 => guided::wild(random),
         1 | 2 => guided::open(random),
-        3 => Event {
+        3 | 4 => Event {
             kind: CLOCK,
             ..Event::default()
         },
-        4..=6 => guided::any_well_made(random, table),
-        7 | 8 => forwarding::about_a_call(random, table),
+        5..=7 => guided::any_well_made(random, table),
+        8 | 9 => forwarding::about_a_call(random, table),
         _ => guided::about_a_call(random, table),
     };
     let event = match random.chance(8) {
@@ -238,10 +272,16 @@ pub fn event(random: &mut Random, table: &[Record], station: &Station) -> Event 
         false => event,
     };
     let last = station.last_time;
+    let edges = remote_events::edges(&station.remote);
     let time = match random.below(20) {
+        _ if event.kind == CLOCK && !edges.is_empty() && random.chance(50) => {
+            let edge = random.pick(&edges);
+            let around = [edge - 1, edge, edge, edge.saturating_add(1)];
+            random.pick(&around).max(last)
+        }
         0 => last.saturating_sub(random.pick(&[1, T1, u64::MAX])),
         1 => u64::MAX,
-        2..=4 => last.saturating_add(random.pick(&[T1 - 1, T1, T1 + 1])),
+        2..=4 => last.saturating_add(random.pick(&[T1 - 1, T1, T1 + 1, 15_000, 30_000])),
         _ => last.saturating_add(random.below(200)),
     };
     Event { time, ..event }

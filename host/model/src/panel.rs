@@ -10,7 +10,8 @@ use crate::step::step;
 /// "`panelrun` names 15 itself so that its stored printouts stay" (02, Four)
 pub const LIMIT: u8 = 15;
 
-/// "starts with 64 free records and a fresh station of limit 15"
+/// "starts with 64 free records and a fresh station of limit 15", both marks
+/// set
 pub fn start() -> (Vec<Record>, Station) {
     let station = Station {
         limit: LIMIT,

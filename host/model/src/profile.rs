@@ -9,6 +9,7 @@ use crate::guided;
 use crate::panel;
 use crate::random::Random;
 use crate::record::Record;
+use crate::remote_events;
 use crate::station::Station;
 use crate::step::step;
 
@@ -31,9 +32,11 @@ pub enum Profile {
     /// Few outgoing calls whose leg 2 is forwarded on, to the fifteenth wait
     /// and past it.
     Chain,
+    /// Kinds 16 to 31 among few calls with open requests.
+    Remote,
 }
 
-pub const ALL: [Profile; 8] = [
+pub const ALL: [Profile; 9] = [
     Profile::Mixed,
     Profile::Deep,
     Profile::Full,
@@ -42,6 +45,7 @@ pub const ALL: [Profile; 8] = [
     Profile::Hostile,
     Profile::Second,
     Profile::Chain,
+    Profile::Remote,
 ];
 
 /// How a profile chooses; chances are in percent, tried in this order.
@@ -69,6 +73,7 @@ impl Profile {
             Profile::Hostile => "hostile",
             Profile::Second => "second",
             Profile::Chain => "chain",
+            Profile::Remote => "remote",
         }
     }
 
@@ -92,6 +97,7 @@ impl Profile {
             Profile::Hostile => taste(15, 25, 25, 4, 25, 10, 12, 6),
             Profile::Second => taste(0, 0, 1, 1, 30, 4, 0, 1),
             Profile::Chain => taste(0, 1, 1, 1, 20, 3, 0, 1),
+            Profile::Remote => taste(0, 3, 2, 12, 15, 5, 1, 3),
         }
     }
 }
@@ -159,6 +165,9 @@ impl Walk {
                 ..Event::default()
             };
         }
+        if self.profile == Profile::Remote && random.chance(60) {
+            return remote_events::about_the_station(random, &self.table, &self.station);
+        }
         let used = self.table.iter().filter(|r| !r.is_free()).count();
         if used < taste.crowd.min(self.table.len()) && random.chance(taste.open) {
             return self.opening();
@@ -168,7 +177,9 @@ impl Walk {
             return guided::open(random);
         }
         match self.profile {
-            Profile::Wrap | Profile::Clock if random.chance(60) => self.divert_somewhere(),
+            Profile::Wrap | Profile::Clock | Profile::Remote if random.chance(60) => {
+                self.divert_somewhere()
+            }
             Profile::Second => {
                 let event = guided::about_a_call(random, &self.table);
                 guided::open_handed(random, event)
@@ -178,12 +189,14 @@ impl Walk {
         }
     }
 
-    /// Wrap and Clock live on incoming calls, Second and Chain on outgoing
+    /// Wrap, Clock and Remote live on incoming calls, Second and Chain on outgoing
     /// ones.
     fn opening(&mut self) -> Event {
         let event = guided::open(&mut self.random);
         let kind = match self.profile {
-            Profile::Wrap | Profile::Clock if self.random.chance(80) => OPEN_INCOMING,
+            Profile::Wrap | Profile::Clock | Profile::Remote if self.random.chance(80) => {
+                OPEN_INCOMING
+            }
             Profile::Second | Profile::Chain if self.random.chance(95) => OPEN_OUTGOING,
             _ => return event,
         };
@@ -229,19 +242,22 @@ impl Walk {
             let back = random.pick(&[1, 1, 7, 10_000, u64::MAX]);
             return last.saturating_sub(back);
         }
-        // A clock at the edge of some request's T1, if that is not gone by.
-        let starts: Vec<u64> = self
-            .table
-            .iter()
-            .filter(|r| r.is_requested())
-            .map(|r| r.start)
-            .collect();
-        if kind == CLOCK && !starts.is_empty() && random.chance(60) {
-            let around = random.pick(&[T1 - 1, T1, T1, T1 + 1]);
-            return random.pick(&starts).saturating_add(around).max(last);
+        // A clock at the edge of some request's timer, if that is not gone by.
+        let requested = self.table.iter().filter(|r| r.is_requested());
+        let edges = requested.map(|r| r.start.saturating_add(T1));
+        let mut edges: Vec<u64> = edges.collect();
+        let pending = remote_events::edges(&self.station.remote);
+        match self.profile == Profile::Remote && !pending.is_empty() && random.chance(60) {
+            true => edges = pending,
+            false => edges.extend(pending),
+        }
+        if kind == CLOCK && !edges.is_empty() && random.chance(60) {
+            let edge = random.pick(&edges);
+            let around = [edge - 1, edge, edge, edge.saturating_add(1)];
+            return random.pick(&around).max(last);
         }
         let pause = match random.chance(taste.leap) {
-            true => random.pick(&[T1 - 1, T1, T1 + 1, 3 * T1]),
+            true => random.pick(&[T1 - 1, T1, T1 + 1, 15_000, 3 * T1]),
             false => random.pick(&[0, 0, 1, 5, 40, 300]),
         };
         last.saturating_add(pause)

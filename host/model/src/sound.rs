@@ -1,9 +1,10 @@
-//! When a record, a table and a station are sound: one function for each
-//! sentence of the page's list.
+//! When a record and a table are sound: one function for each sentence of the
+//! page's list; those of the station are in `station_sound`.
 
 use crate::codes::*;
 use crate::record::Record;
 use crate::station::Station;
+use crate::station_sound::{no_shared_identifier, station_sound};
 use crate::waits::{Dli1, Waits, MOST_LATER};
 
 /// "each code is in range". A free record has no basic state, a used one has.
@@ -215,45 +216,21 @@ pub fn no_start_after_last_time(table: &[Record], last_time: u64) -> bool {
         .all(|r| !r.is_requested() || r.start <= last_time)
 }
 
-/// "no two Requested records share an identifier"
-pub fn no_shared_identifier(table: &[Record]) -> bool {
-    let mut open: Vec<u16> = table
-        .iter()
-        .filter(|r| r.is_requested())
-        .map(|r| r.identifier)
-        .collect();
-    open.sort_unstable();
-    open.windows(2).all(|pair| pair[0] != pair[1])
-}
-
 /// "The host lends the table of calls as 1 to 64 call records."
 pub fn length_in_range(table: &[Record]) -> bool {
     (1..=MOST_RECORDS).contains(&table.len())
 }
 
-/// The records of a table of any length are sound, alone and together.
+/// The records of a table of any length are sound, each alone and beside the
+/// last time.
 pub fn records_sound(table: &[Record], last_time: u64) -> bool {
-    table.iter().all(record_sound)
-        && no_start_after_last_time(table, last_time)
-        && no_shared_identifier(table)
-}
-
-/// "its diversion limit (1 to 15)"
-pub fn limit_in_range(station: &Station) -> bool {
-    (1..=MOST_DIVERSIONS).contains(&station.limit)
-}
-
-/// "a station whose next identifier is 0 isn't sound" (02, Three)
-pub fn next_identifier_not_zero(station: &Station) -> bool {
-    station.next_identifier != 0
-}
-
-/// Limit and next identifier; any time will do.
-pub fn station_sound(station: &Station) -> bool {
-    limit_in_range(station) && next_identifier_not_zero(station)
+    table.iter().all(record_sound) && no_start_after_last_time(table, last_time)
 }
 
 /// The opposite of refusal 1.
 pub fn lent_sound(table: &[Record], station: &Station) -> bool {
-    length_in_range(table) && station_sound(station) && records_sound(table, station.last_time)
+    length_in_range(table)
+        && station_sound(station)
+        && records_sound(table, station.last_time)
+        && no_shared_identifier(table, station)
 }

@@ -6,7 +6,7 @@ use crate::event::Event;
 use crate::record::Record;
 use crate::sound;
 use crate::station::Station;
-use crate::{incoming, outgoing};
+use crate::{incoming, outgoing, remote};
 
 /// Takes one event. A refusal leaves table and station as they are; "a done
 /// event makes its time the last time".
@@ -37,6 +37,7 @@ pub fn refusal(table: &[Record], station: &Station, event: &Event) -> u8 {
             Some(_) => 0,
         },
         CLOCK => 0,
+        ACTIVATION_REQUEST..=CHECK_ERROR => remote::refusal(&station.remote, event),
         _ => match named_record(table, event) {
             None => 4,
             Some(record) => refusal_of_call(record, station, event),
@@ -86,7 +87,8 @@ fn carry_out(table: &mut [Record], station: &mut Station, event: &Event) -> Answ
     match event.kind {
         OPEN_OUTGOING => open(table, outgoing::opened(event)),
         OPEN_INCOMING | OPEN_DIVERTED => open(table, incoming::opened(event)),
-        CLOCK => incoming::clock(table, event.time),
+        CLOCK => clock(table, station, event.time),
+        ACTIVATION_REQUEST..=CHECK_ERROR => remote::act(table, station, event),
         OWN_END => {
             // 11 "sends RELEASE COMPLETE"; "the record is free and its
             // request ended". Incoming calls have leg 1 alone.
@@ -97,6 +99,14 @@ fn carry_out(table: &mut [Record], station: &mut Station, event: &Event) -> Answ
         REROUTE..=MESSAGE => outgoing::act(&mut table[at], event),
         _ => incoming::act(table, station, event),
     }
+}
+
+/// "Clock events end T1 requests first, then T2 to T5" (02, Seven), one for
+/// each event. "With none due, the answer has no call."
+fn clock(table: &mut [Record], station: &mut Station, time: u64) -> Answer {
+    incoming::expire(table, time)
+        .or_else(|| station.remote.expire(time))
+        .unwrap_or_default()
 }
 
 /// An open "sends nothing: the host has sent the SETUP".

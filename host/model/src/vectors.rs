@@ -78,6 +78,43 @@ pub fn fifteen() -> String {
     lines
 }
 
+/// Sixty-four calls with an open request and the four sorts pending, all of
+/// one time: "68 of them leave nothing due" (02, Seven).
+pub fn sixty_eight() -> String {
+    let mut lines = String::new();
+    let mut line = |words: &str, time: u64| {
+        let _ = writeln!(lines, "{words} at {time}");
+    };
+    let requests = [
+        "activation request panel 7 cfu to 8",
+        "deactivation request panel 7 cfb",
+        "interrogation request panel 7 cfnr",
+        "check request panel 8",
+    ];
+    for call in 0..64 {
+        line("open incoming 9", 1);
+        line(&format!("divert call {call} cfu to 3"), 1);
+        // Drawn between the calls' identifiers, and a second one is 9.
+        if call % 16 == 15 {
+            line(requests[call / 16], 1);
+            line(requests[call / 16], 1);
+        }
+    }
+    for (clocks, time) in [(1, 10_000), (68, 30_001), (1, 30_001)] {
+        for _ in 0..clocks {
+            line("clock", time);
+        }
+    }
+    requests.into_iter().for_each(|words| line(words, 30_001));
+    // T3, T4 and T5 are due, and then T2.
+    for (clocks, time) in [(1, 45_000), (4, 45_001), (1, 60_000), (2, 60_001)] {
+        for _ in 0..clocks {
+            line("clock", time);
+        }
+    }
+    lines
+}
+
 /// Events of each profile's file.
 const COUNT: usize = 1000;
 
@@ -86,6 +123,10 @@ pub fn all() -> Vec<(&'static str, Vec<u8>)> {
     let mut files = vec![
         ("nine", text::encode(NINE).unwrap_or_default()),
         ("fifteen", text::encode(&fifteen()).unwrap_or_default()),
+        (
+            "sixty-eight",
+            text::encode(&sixty_eight()).unwrap_or_default(),
+        ),
     ];
     for (at, profile) in profile::ALL.into_iter().enumerate() {
         let events = profile::events(profile, 4503 + at as u64, COUNT);

@@ -37,7 +37,7 @@ fn the_chain_profile_meets_every_way() {
 fn lent_cases_meet_every_way() {
     let mut ways = Ways::default();
     let mut random = Random::new(5);
-    for _ in 0..60_000 {
+    for _ in 0..90_000 {
         let mut case = lent::case(&mut random);
         let before = case.table.clone();
         let answer = step(&mut case.table, &mut case.station, &case.event);

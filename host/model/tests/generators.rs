@@ -23,10 +23,15 @@ fn check(
     assert_eq!(after.1.last_time, event.time);
     assert_eq!(after.1.limit, before.1.limit);
     assert!(answer.messages.len() <= 3);
+    let remote = event.kind >= ACTIVATION_REQUEST;
     assert_eq!(
         answer.call.is_none(),
-        event.kind == CLOCK && before.0 == after.0
+        remote || event.kind == CLOCK && before.0 == after.0
     );
+    // The marks stay, and kinds 1 to 15 but the clock leave all of that part.
+    let (was, is) = (before.1.remote, after.1.remote);
+    assert_eq!((was.enabled, was.allowed), (is.enabled, is.allowed));
+    assert!(was == is || remote || event.kind == CLOCK, "{event:?}");
     // No record but the call's own moves.
     for (at, pair) in before.0.iter().zip(&after.0).enumerate() {
         assert!(pair.0 == pair.1 || answer.call == Some(at as u8));
@@ -69,27 +74,31 @@ fn soundness_is_kept_from_lent_starts() {
 fn possible(code: u8, kind: u8) -> bool {
     match code {
         0..=3 => true,
-        4 => !matches!(kind, OPEN_OUTGOING..=OPEN_DIVERTED | CLOCK),
-        5 => matches!(kind, USER_ALERTED..=LEG_FAILED | REROUTE..=MESSAGE),
-        6 => matches!(kind, RESULT | ERROR),
+        4 => kind <= FAR_END && !matches!(kind, OPEN_OUTGOING..=OPEN_DIVERTED | CLOCK),
+        5 => {
+            let calls = matches!(kind, USER_ALERTED..=LEG_FAILED | REROUTE..=MESSAGE);
+            calls || kind >= ACTIVATION_RESULT
+        }
+        6 => matches!(kind, RESULT | ERROR) || kind >= ACTIVATION_RESULT,
         7 => kind == USER_DIVERTS,
-        _ => matches!(kind, OPEN_OUTGOING..=OPEN_DIVERTED),
+        8 => matches!(kind, OPEN_OUTGOING..=OPEN_DIVERTED),
+        _ => matches!(kind, ACTIVATION_REQUEST..=CHECK_REQUEST),
     }
 }
 
 #[test]
 fn lent_cases_meet_every_answer_of_every_kind() {
-    let mut counts = [[0_u32; 256]; 9];
+    let mut counts = [[0_u32; 256]; 10];
     let mut random = Random::new(7);
-    for _ in 0..60_000 {
+    for _ in 0..100_000 {
         let mut case = lent::case(&mut random);
         let before = (case.table.clone(), case.station);
         let answer = step(&mut case.table, &mut case.station, &case.event);
         check(&before, &(case.table, case.station), &case.event, &answer);
         counts[usize::from(answer.code)][usize::from(case.event.kind)] += 1;
     }
-    for code in 0..=8 {
-        for kind in 1..=15 {
+    for code in 0..=9 {
+        for kind in 1..=31 {
             let met = counts[usize::from(code)][usize::from(kind)];
             assert_eq!(
                 met > 20,

@@ -23,7 +23,7 @@ fn the_number_after_65535_is_1() {
 
 #[test]
 fn a_fresh_station_still_begins_with_65535() {
-    assert_eq!(Station::fresh(1).unwrap().next_identifier, 65_535);
+    assert_eq!(Station::fresh(1, 1, 1).unwrap().next_identifier, 65_535);
     assert_eq!(Station::short().next_identifier, 65_535);
 }
 
@@ -121,6 +121,24 @@ fn forty_open_requests_are_passed_over_across_the_wrap() {
         assert_eq!(panel.station.next_identifier, station::after(taken));
         panel.run(&format!("error call 40 id {taken} at 1"));
     }
+}
+
+#[test]
+fn both_tables_draw_from_one_sequence() {
+    let mut panel = Panel::new();
+    panel.run(REQUESTED);
+    let sent = panel.run("check request panel 7 at 4");
+    assert_eq!(sent.identifier, Some(1));
+    panel.run("open incoming 9 at 5");
+    assert_eq!(panel.run("divert call 1 cfu to 3 at 5").identifier, Some(2));
+    // After the wrap each passes over the other's.
+    panel.station.next_identifier = 65_535;
+    let sent = panel.run("activation request panel 7 cfu to 8 at 6");
+    assert_eq!(sent.identifier, Some(3));
+    panel.run("open incoming 9 at 6");
+    panel.station.next_identifier = 1;
+    assert_eq!(panel.run("divert call 2 cfu to 3 at 6").identifier, Some(4));
+    assert_eq!(panel.station.next_identifier, 5);
 }
 
 #[test]

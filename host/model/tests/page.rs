@@ -128,19 +128,19 @@ fn the_last_option_alone_does_not_decide() {
 #[test]
 fn a_fresh_station() {
     for limit in [0, 16, 255] {
-        assert_eq!(Station::fresh(limit), Err(3));
+        assert_eq!(Station::fresh(limit, 1, 1), Err(3));
     }
     for limit in 1..=15 {
-        let station = Station::fresh(limit).unwrap();
+        let station = Station::fresh(limit, 1, 1).unwrap();
         let fresh = (station.last_time, station.next_identifier, station.limit);
         assert_eq!(fresh, (0, 65_535, limit));
     }
-    assert_eq!(Ok(Station::short()), Station::fresh(5));
+    assert_eq!(Ok(Station::short()), Station::fresh(5, 1, 1));
 }
 
 #[test]
 fn the_panel_names_15_itself() {
-    assert_eq!(Ok(panel::start().1), Station::fresh(15));
+    assert_eq!(Ok(panel::start().1), Station::fresh(15, 1, 1));
 }
 
 #[test]

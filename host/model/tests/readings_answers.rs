@@ -53,7 +53,7 @@ fn connect_with_dli3_holds_flag_and_own_number() {
     assert_eq!(allowed.to_string(), "0 0 - - - - D1");
     let with_number = Message {
         flag: 1,
-        own: 102,
+        number: 102,
         ..plain
     };
     assert_eq!(allowed.messages, [with_number]);

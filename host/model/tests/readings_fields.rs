@@ -139,7 +139,7 @@ type Change = fn(&mut Event);
 /// Events, each with a change that makes it wrong.
 const WRONG: [(&str, Change); 22] = [
     ("clock at 1", |e| e.kind = 0),
-    ("clock at 1", |e| e.kind = 16),
+    ("clock at 1", |e| e.kind = 32),
     ("open outgoing 9 at 1", |e| e.first = 0),
     ("open incoming 9 at 1", |e| e.first = 0),
     ("open incoming 9 diverted cfu counter 1 at 1", |e| {

@@ -68,6 +68,33 @@ fn a_result_or_error_with_identifier_0_is_raw_and_an_invoke_is_not() {
     assert_eq!(decode(&encode(invoke).unwrap()), invoke);
 }
 
+/// Each of kinds 16 to 31 as it is said; an identifier may be 0.
+#[test]
+fn kinds_16_to_31_have_their_words() {
+    let lines = "\
+activation request panel 7 cfu to 8 at 1
+deactivation request panel 7 cfb at 1
+interrogation request panel 7 cfnr at 1
+check request panel 7 at 1
+activation invoke panel 7 cfu id 0 to 8 at 1
+deactivation invoke panel 7 cfb id 1 at 1
+interrogation invoke panel 7 cfnr id 65535 at 1
+check invoke panel 7 id 0 at 1
+activation result id 0 at 1
+deactivation result id 1 at 1
+interrogation result id 2 to 8 at 1
+check result id 3 at 1
+activation error id 0 at 1
+deactivation error id 1 at 1
+interrogation error id 2 at 1
+check error id 3 at 1
+";
+    let bytes = encode(lines).unwrap();
+    assert_eq!(decode(&bytes), lines);
+    let kinds: Vec<u8> = bytes.chunks(24).map(|record| record[0]).collect();
+    assert_eq!(kinds, (16..=31).collect::<Vec<u8>>());
+}
+
 #[test]
 fn a_raw_line_may_hold_any_record() {
     let text = "raw 0A00000000000000000000000000000000000000000000ff";
@@ -75,7 +102,7 @@ fn a_raw_line_may_hold_any_record() {
 }
 
 /// Texts that are not read, and how their errors begin.
-const WRONG: [(&str, &str); 20] = [
+const WRONG: [(&str, &str); 25] = [
     (
         "clock at 1\nclock",
         "line 2: expected `at`, found the end of the line",
@@ -136,6 +163,26 @@ const WRONG: [(&str, &str); 20] = [
     (
         "clock at 1 now",
         "line 1: expected the end of the line, found `now`",
+    ),
+    (
+        "activation call 0 at 1",
+        "line 1: expected one of request, invoke, result, error, found `call`",
+    ),
+    (
+        "check request panel 7 cfu at 1",
+        "line 1: expected `at`, found `cfu`",
+    ),
+    (
+        "interrogation result id 3 at 1",
+        "line 1: expected `to`, found `at`",
+    ),
+    (
+        "activation request panel 0 cfu to 1 at 1",
+        "line 1: expected a number from 1 to 65535",
+    ),
+    (
+        "deactivation invoke panel 1 unknown id 1 at 1",
+        "line 1: expected one of cfu, cfb, cfnr",
     ),
     ("raw 00", "line 1: expected 48 hex digits, found `00`"),
     ("raw é0", "line 1: expected 48 hex digits"),

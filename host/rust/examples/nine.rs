@@ -79,7 +79,7 @@ fn line(position: usize, told: &Result<Answer, Refusal>) -> String {
 fn main() {
     let mut table = [Call::FREE; 64];
     // The printout has limit 15; the short form, `Station::short()`, has 5.
-    let mut station = Station::fresh(15).expect("a limit of 1 to 15");
+    let mut station = Station::fresh(15, true, true).expect("a limit of 1 to 15");
     for (position, event) in events().iter().enumerate() {
         let told = station.step(&mut table, event);
         println!("{}", line(position, &told));

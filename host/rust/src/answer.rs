@@ -1,13 +1,14 @@
 //! What a done event gives.
 
-use crate::{raw, words, Choice, Leg, Number, Reason, Refusal};
+use crate::{raw, words, Ask, Choice, Leg, Number, Reason, Refusal, Sort};
 
 /// The answer to a done event.
 #[derive(Clone, Copy, Debug, PartialEq, Eq)]
 pub struct Answer {
     /// The place of the record that the event was about; of an open, the one it
-    /// took. It is `Some` in every done answer but that of a clock event with
-    /// nothing due.
+    /// took. It is `Some` in every done answer but those of the kinds that name no
+    /// call, from [`Kind::Ask`](crate::Kind::Ask) on, and of a clock event that has ended
+    /// no call's request.
     pub call: Option<u8>,
     /// The messages to send, in this order; `None` past the last one.
     pub sent: [Option<Message>; 3],
@@ -16,7 +17,8 @@ pub struct Answer {
     /// The number to show to the caller.
     pub number: Option<Number>,
     /// The identifier of a message that is sent, or of a request that a clock
-    /// event has ended. It is 0 only where an invoke that bears 0 is answered.
+    /// event has ended, a call's or one to another panel. It is 0 only where an invoke
+    /// that bears 0 is answered.
     pub identifier: Option<u16>,
     /// The counter of a message that is sent.
     pub counter: Option<u8>,
@@ -73,6 +75,21 @@ pub enum Message {
     },
     /// cfnrDivertedLegFailed.
     LegFailed { leg: Leg },
+    /// An invoke to another panel ([`Ask`]). This and the next two belong to no call and
+    /// have no leg: it goes to its panel on a connection of its own.
+    Ask {
+        panel: Number,
+        identifier: u16,
+        ask: Ask,
+    },
+    /// The return result of such an invoke that was received, on the connection on which
+    /// that came; to an interrogation with the destination that is kept.
+    RemoteResult {
+        identifier: u16,
+        destination: Option<Number>,
+    },
+    /// Its return error.
+    RemoteError { identifier: u16 },
     /// One that this wrapper does not know, or not with these arguments, of a later
     /// archive. A host sends nothing in its place, sends the others, and reports
     /// the letter: what it leaves out, the far end waits for.
@@ -114,6 +131,9 @@ impl Message {
             Message::ReleaseComplete { .. } => 'X',
             Message::Setup { .. } => 'S',
             Message::LegFailed { .. } => 'F',
+            Message::Ask { ask, .. } => ask.sort().letter(),
+            Message::RemoteResult { .. } => 'r',
+            Message::RemoteError { .. } => 'e',
             Message::Other(message) => message.letter as char,
         }
     }
@@ -123,8 +143,8 @@ impl Message {
         words::letter(self.letter() as u8)
     }
 
-    /// The leg to send it on; none of [`Message::Other`] alone, where its number is
-    /// that of no leg.
+    /// The leg to send it on; none of what belongs to no call, and of [`Message::Other`]
+    /// where its number is that of no leg.
     pub const fn leg(&self) -> Option<Leg> {
         Some(match *self {
             Message::Alerting { leg }
@@ -136,6 +156,9 @@ impl Message {
             | Message::ReleaseComplete { leg }
             | Message::Setup { leg, .. }
             | Message::LegFailed { leg } => leg,
+            Message::Ask { .. } | Message::RemoteResult { .. } | Message::RemoteError { .. } => {
+                return None
+            }
             Message::Other(message) => return Leg::of(message.leg),
         })
     }
@@ -149,6 +172,36 @@ impl Message {
     /// By the definitions the engine sends these letters alone, and no leg, option
     /// or number that is not one.
     fn known(m: &raw::Message) -> Option<Message> {
+        match m.leg {
+            0 => Message::of_no_call(m),
+            _ => Message::of_a_call(m),
+        }
+    }
+
+    fn of_no_call(m: &raw::Message) -> Option<Message> {
+        let identifier = m.identifier;
+        let ask = |sort| {
+            Some(Message::Ask {
+                panel: Number::new(m.number)?,
+                identifier,
+                ask: Ask::of(sort, m.reason, m.destination)?,
+            })
+        };
+        Some(match m.letter {
+            b'a' => ask(Sort::Activation)?,
+            b'd' => ask(Sort::Deactivation)?,
+            b'i' => ask(Sort::Interrogation)?,
+            b'c' => ask(Sort::Check)?,
+            b'r' => Message::RemoteResult {
+                identifier,
+                destination: Number::new(m.destination),
+            },
+            b'e' => Message::RemoteError { identifier },
+            _ => return None,
+        })
+    }
+
+    fn of_a_call(m: &raw::Message) -> Option<Message> {
         let leg = Leg::of(m.leg)?;
         let identifier = m.identifier;
         Some(match m.letter {

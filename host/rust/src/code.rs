@@ -25,6 +25,8 @@ macro_rules! numbers {
         }
     };
 }
+pub(crate) use numbers;
+
 /// The same of numbers that the library hands out, to which a later archive may
 /// add: one that is not known here is kept as it is.
 macro_rules! open_numbers {

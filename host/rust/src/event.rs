@@ -1,6 +1,6 @@
 //! Events.
 
-use crate::{raw, words, Choice, Leg, Number, Reason};
+use crate::{raw, words, Ask, Choice, Leg, Number, Reason, Sort};
 
 /// An event and its time.
 #[derive(Clone, Copy, Debug, PartialEq, Eq)]
@@ -51,8 +51,9 @@ pub enum Kind {
     Error { call: u8, identifier: u16 },
     /// cfnrDivertedLegFailed was received.
     LegFailed { call: u8 },
-    /// Time has passed. An answer that names a call ended its request: send
-    /// another one, until it names none.
+    /// Time has passed. An answer that has an identifier ended a request: that of the
+    /// call it names, or one to another panel where it names none. Send another one,
+    /// until it has none.
     Clock,
     /// The own side ends the call: X1, and in Invoked X2 after it.
     End { call: u8 },
@@ -90,6 +91,43 @@ pub enum Kind {
     },
     /// The far end ends an incoming call; sends nothing.
     FarEnd { call: u8 },
+    /// The user asks another panel to forward its calls, and so on ([`Ask`]): the letters
+    /// a, d, i and c. This kind and the next three name no call, and leave the table as it
+    /// is.
+    ///
+    /// At most one request of each [`Sort`] is pending; another is
+    /// [`AlreadyAsked`](crate::Refusal::AlreadyAsked). It ends by a result or an error of
+    /// its sort with its identifier, or by a clock event [`Sort::time`] after it, which
+    /// equals a reject. Clock events end the requests of calls first, then these in the
+    /// order of their sorts.
+    Ask { panel: Number, ask: Ask },
+    /// Another panel asks us: r, or e. Its number decides nothing, and the identifier,
+    /// which is echoed, may be 0.
+    ///
+    /// An activation is kept ([`Station::destination`](crate::Station::destination)) over
+    /// any that stands of its type, and gets r, where that is enabled; else e, and nothing
+    /// is kept. It sends no check by itself. A deactivation and an interrogation get e
+    /// where none of their type stands; r of an interrogation has the destination. A check
+    /// gets r where diversion to us is allowed.
+    Asked {
+        panel: Number,
+        identifier: u16,
+        ask: Ask,
+    },
+    /// The result of our request of this sort; with the destination of an interrogation,
+    /// which is for the host alone: the engine neither keeps nor shows it. It ends the
+    /// pending request that has its identifier, and sends and answers nothing: what it
+    /// says is for the host to tell its user.
+    ///
+    /// By clause 9.3.4 of H.450.3 any answer to a check, and its expiry, leaves the number
+    /// valid: the request ends, and nothing else changes.
+    RemoteResult {
+        sort: Sort,
+        identifier: u16,
+        destination: Option<Number>,
+    },
+    /// An error or reject of our request of this sort; ends it as the result does.
+    RemoteError { sort: Sort, identifier: u16 },
     /// All of a record but its time, for one that is none of the above: the
     /// engine refuses it with [`NotWellMade`](crate::Refusal::NotWellMade).
     Raw([u8; 16]),

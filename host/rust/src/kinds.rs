@@ -1,6 +1,6 @@
 //! Each kind of event as the library's plain numbers, and back.
 
-use crate::{raw, Choice, Dli3, Kind, Leg, Number, Reason, Received};
+use crate::{raw, Ask, Choice, Dli3, Forward, Kind, Leg, Number, Reason, Received, Sort};
 
 fn number(given: Option<Number>) -> u16 {
     given.map_or(0, Number::get)
@@ -97,6 +97,35 @@ impl Kind {
                 leg: leg.number(),
                 ..received(of_call(14, call), message)
             },
+            _ => self.raw_of_no_call(),
+        }
+    }
+
+    /// The kinds that are about another panel.
+    fn raw_of_no_call(&self) -> raw::Event {
+        match *self {
+            Kind::Ask { panel, ask } => asking(16, panel, ask),
+            Kind::Asked {
+                panel,
+                identifier,
+                ask,
+            } => raw::Event {
+                identifier,
+                ..asking(20, panel, ask)
+            },
+            Kind::RemoteResult {
+                sort,
+                identifier,
+                destination,
+            } => raw::Event {
+                identifier,
+                second: number(destination),
+                ..of_call(24 + sort.number(), 0)
+            },
+            Kind::RemoteError { sort, identifier } => raw::Event {
+                identifier,
+                ..of_call(28 + sort.number(), 0)
+            },
             _ => raw::Event::default(),
         }
     }
@@ -156,8 +185,41 @@ impl Kind {
                 message: read_message(e)?,
             },
             15 => Kind::FarEnd { call },
+            _ => return Kind::read_of_no_call(e),
+        })
+    }
+
+    fn read_of_no_call(e: &raw::Event) -> Option<Kind> {
+        let sort = Sort::of(e.kind % 4)?;
+        let (identifier, destination) = (e.identifier, Number::new(e.second));
+        let (panel, ask) = (Number::new(e.first), Ask::of(sort, e.reason, e.second));
+        Some(match e.kind {
+            16..=19 => Kind::Ask {
+                panel: panel?,
+                ask: ask?,
+            },
+            20..=23 => Kind::Asked {
+                panel: panel?,
+                identifier,
+                ask: ask?,
+            },
+            24..=27 => Kind::RemoteResult {
+                sort,
+                identifier,
+                destination,
+            },
+            28..=31 => Kind::RemoteError { sort, identifier },
             _ => return None,
         })
+    }
+}
+
+/// What is asked of a panel, the first of four kinds being that of an activation.
+fn asking(first: u8, panel: Number, ask: Ask) -> raw::Event {
+    raw::Event {
+        reason: ask.forward().map_or(0, Forward::number),
+        second: number(ask.destination()),
+        ..opened(first + ask.sort().number(), panel)
     }
 }
 

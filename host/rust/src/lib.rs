@@ -10,7 +10,7 @@
 //!
 //! # fn main() -> Result<(), Refusal> {
 //! let mut table = [Call::FREE; 64];
-//! let mut station = Station::fresh(15)?;
+//! let mut station = Station::fresh(15, true, true)?;
 //!
 //! let own = Number::new(102).unwrap();
 //! let answer = station.step(&mut table, &Event::at(4, Kind::OpenIncoming { own }))?;
@@ -21,6 +21,10 @@
 //! # Ok(())
 //! # }
 //! ```
+//!
+//! A panel can also be asked to forward its calls, from another one ("follow me"): the
+//! kinds from [`Kind::Ask`] on, which name no call. What a station was asked for is
+//! [`Station::destination`].
 //!
 //! A [`Plan`] of forwardings can be rehearsed without a call: which panel rings?
 //!
@@ -39,10 +43,13 @@ mod answer;
 mod call;
 mod code;
 mod event;
+#[cfg(test)]
+mod following;
 mod kinds;
 mod plan;
 mod raw;
 mod refusal;
+mod remote;
 mod station;
 #[cfg(test)]
 mod tests;
@@ -59,6 +66,7 @@ pub use code::{Basic, Choice, Direction, Leg, Reason};
 pub use event::{Dli3, Event, Kind, Received};
 pub use plan::{Ending, Panel, Plan, Rehearsal};
 pub use refusal::Refusal;
+pub use remote::{Ask, Forward, Pending, Sort};
 pub use station::Station;
 pub use waits::Dli1;
 
@@ -69,10 +77,11 @@ pub type Number = core::num::NonZeroU16;
 /// [`Call::to_bytes`]: keep this number beside them. Where another stands there, do not
 /// lend them, but start again with free records and a fresh station. It moves whenever
 /// their layout changes, or what their bytes mean, or which of them are sound. What was
-/// kept under 1 may also be converted: the station as it is, each record by
-/// [`Call::from_format_1`]. What was kept before there was a number has the layout of
-/// 1, but may not be sound: [`Station::kept`] says when.
-pub const FORMAT: u32 = 2;
+/// kept under 2 may also be converted: the records as they are, the station by
+/// [`Station::from_format_2`]. So may what was kept under 1: the station by the same,
+/// each record by [`Call::from_format_1`]. What was kept before there was a number has the
+/// layout of 1, but may not be sound: [`Station::kept`] says when.
+pub const FORMAT: u32 = 3;
 
 /// The most records that a table may have.
 pub const MOST_RECORDS: usize = 64;

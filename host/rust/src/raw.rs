@@ -89,9 +89,9 @@ mod library {
     extern "C" {
         // The layout of the structs here, by its number: an archive of another one
         // does not link. It hands back the archive's format number.
-        #[link_name = "whipsail_layout_2"]
+        #[link_name = "whipsail_layout_3"]
         pub fn layout() -> u32;
-        pub fn whipsail_fresh(limit: u8) -> Made;
+        pub fn whipsail_fresh(limit: u8, enabled: u8, allowed: u8) -> Made;
         pub fn whipsail_fresh_short() -> Station;
         pub fn whipsail_lent_step(table: *mut Call, len: usize, input: Input) -> Told;
         pub fn whipsail_event_at(bytes: *const u8, len: usize, place: usize) -> Read;
@@ -114,10 +114,10 @@ pub fn format() -> u32 {
     unsafe { library::layout() }
 }
 
-pub fn fresh(limit: u8) -> Made {
+pub fn fresh(limit: u8, enabled: u8, allowed: u8) -> Made {
     tied();
-    // SAFETY: takes any number.
-    unsafe { library::whipsail_fresh(limit) }
+    // SAFETY: takes any numbers.
+    unsafe { library::whipsail_fresh(limit, enabled, allowed) }
 }
 
 pub fn fresh_short() -> Station {
@@ -185,9 +185,9 @@ lies!(Event, 24, kind 0 call 1 leg 2 message 3 reason 4 option 5 counter 6 flag 
 lies!(Message, 16, letter 0 leg 1 reason 2 option 3 counter 4 flag 5 identifier 6
     destination 8 diverting 10 original 12 number 14);
 lies!(Answer, 64, code 0 call 1 sent 2 notice 50 number 52 identifier 56 counter 60);
-lies!(Input, 40, station 0 event 16);
-lies!(Told, 80, answer 0 station 64);
-lies!(Made, 24, code 0 station 8);
+lies!(Input, 112, station 0 event 88);
+lies!(Told, 152, answer 0 station 64);
+lies!(Made, 96, code 0 station 8);
 lies!(Read, 32, whole 0 event 8);
 lies!(Rehearsed, 6, code 0 ending 1 last 2 counter 4);
 const _: () = assert!(size_of::<usize>() == 8, "a machine of 64 bits");

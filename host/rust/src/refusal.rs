@@ -8,9 +8,10 @@ open_numbers! {
     /// says what to do; table and station are as they were, also where it is one
     /// that is not known here.
     Refusal {
-        /// The table is empty, over 64 records or not sound, or the station's
-        /// limit is not 1 to 15 or its next identifier 0
-        /// ([`Station::kept`](crate::Station::kept) says when).
+        /// The table is empty, over 64 records or not sound, or the station is not:
+        /// its limit is not 1 to 15, its next identifier is 0
+        /// ([`Station::kept`](crate::Station::kept) says when), or what it holds of
+        /// requests to other panels is damaged.
         NotSound = 1,
         /// The event's time is before that of the last done event.
         TimeBefore = 2,
@@ -19,14 +20,18 @@ open_numbers! {
         NotWellMade = 3,
         /// The call is past the table's end, free, or of the other direction.
         NoSuchCall = 4,
-        /// The call's state does not take the event.
+        /// The call's state does not take the event; of an answer from another panel:
+        /// no request of its sort is pending.
         NotInState = 5,
-        /// A result or error is not that of the call's open request.
+        /// A result or error is not that of the call's open request, or of the pending
+        /// one of its sort.
         OtherIdentifier = 6,
         /// One more diversion would exceed the station's limit.
         OverLimit = 7,
         /// An open found no free record.
         TableFull = 8,
+        /// Another panel is to be asked while a request of the same sort is pending.
+        AlreadyAsked = 9,
     }
 }
 
@@ -41,22 +46,25 @@ impl Refusal {
                 "the time is before that of the last done event: hand events over in the order of their times"
             }
             Refusal::NotWellMade => {
-                "a field is outside its range or not used by this kind (a limit: 1 to 15; a plan: 1 to 256 panels, with start and destinations among them): correct what makes it"
+                "a field is outside its range or not used by this kind (a limit: 1 to 15; a mark: 0 or 1; a plan: 1 to 256 panels, with start and destinations among them): correct what makes it"
             }
             Refusal::NoSuchCall => {
                 "no such call: past the table's end, free, or of the other direction; look up which record is meant"
             }
             Refusal::NotInState => {
-                "the call's state does not take this event: look at its record, and drop the event"
+                "the call's state does not take this event, or no request of this sort is pending: look at the record or the station, and drop the event"
             }
             Refusal::OtherIdentifier => {
-                "not the identifier of the call's open request: drop this late or foreign answer"
+                "not the identifier of the call's open request, or of the pending one of this sort: drop this late or foreign answer"
             }
             Refusal::OverLimit => {
                 "one diversion more than the limit: do not divert; let the call ring or end it"
             }
             Refusal::TableFull => {
                 "no record is free: turn the call down, or lend a longer table (up to 64 records)"
+            }
+            Refusal::AlreadyAsked => {
+                "a request of this sort is pending: wait for its answer, or for the clock event that ends it"
             }
             Refusal::Other(_) => {
                 "a refusal of a later archive, not known here: nothing has changed; drop the event, and report the number"

@@ -32,14 +32,20 @@ fn divert(call: u8) -> Kind {
 
 #[test]
 fn limits() {
-    for limit in 0..=255 {
-        match Station::fresh(limit) {
-            Ok(station) => assert_eq!(station, Station::kept(0, 65535, limit)),
+    let marks = [(true, true), (true, false), (false, true), (false, false)];
+    for (limit, (enabled, allowed)) in (0..=255).flat_map(|limit| marks.map(|m| (limit, m))) {
+        let made = Station::fresh(limit, enabled, allowed);
+        assert_eq!(made.is_ok(), (1..=15).contains(&limit));
+        match made {
+            Ok(station) => {
+                assert_eq!(station, Station::kept(0, 65535, limit, enabled, allowed));
+                let read = (station.is_enabled(), station.is_allowed());
+                assert_eq!(read, (enabled, allowed));
+            }
             Err(refusal) => assert_eq!(refusal, Refusal::NotWellMade),
         }
-        assert_eq!(Station::fresh(limit).is_ok(), (1..=15).contains(&limit));
     }
-    assert_eq!(Ok(Station::short()), Station::fresh(5));
+    assert_eq!(Ok(Station::short()), Station::fresh(5, true, true));
 }
 
 #[test]
@@ -60,17 +66,20 @@ fn every_record_reads_back_as_its_bytes() {
 }
 
 #[test]
-fn every_done_event_but_the_clock_names_a_call() {
+fn every_done_event_of_a_call_names_it() {
     let (mut table, mut station) = ([Call::FREE; 64], Station::short());
     let (mut named, mut idle) = (0, 0);
     for bytes in records(MIXED) {
         let event = Event::from_bytes(&bytes);
         match station.step(&mut table, &event).map(|answer| answer.call) {
             Ok(None) => {
-                assert_eq!(event.kind, Kind::Clock);
+                assert!(matches!(bytes[0], 10 | 16..=31), "{event:?}");
                 idle += 1;
             }
-            Ok(Some(_)) => named += 1,
+            Ok(Some(_)) => {
+                assert!(bytes[0] < 16, "{event:?}");
+                named += 1;
+            }
             Err(_) => {}
         }
     }
@@ -80,7 +89,7 @@ fn every_done_event_but_the_clock_names_a_call() {
 #[test]
 fn every_refusal_and_its_text() {
     let mut table = [Call::FREE; 1];
-    let mut station = Station::fresh(1).expect("a limit");
+    let mut station = Station::fresh(1, true, true).expect("a limit");
     let mut refused = |time, kind| {
         let (before, stood) = (table, station);
         let told = station.step(&mut table, &Event::at(time, kind));
@@ -111,9 +120,15 @@ fn every_refusal_and_its_text() {
     };
     assert_eq!(refused(7, diverted), None);
     assert_eq!(refused(7, divert(0)), Some(7));
+    let check = Kind::Ask {
+        panel: number(9),
+        ask: Ask::Check,
+    };
+    assert_eq!(refused(8, check), None);
+    assert_eq!(refused(8, check), Some(9));
     let clock = Event::at(9, Kind::Clock);
     assert_eq!(station.step(&mut [], &clock), Err(Refusal::NotSound));
-    for number in 1..=8 {
+    for number in 1..=9 {
         let refusal = Refusal::of(number);
         let said: &dyn core::error::Error = &refusal;
         assert!(said.to_string().starts_with(&std::format!("{number}: ")));
@@ -176,17 +191,70 @@ fn readers_say_what_a_panel_shows() {
 fn a_station_is_kept_as_its_bytes() {
     let mut station = Station::short();
     let mut table = [Call::FREE; 1];
-    for (time, kind) in [(0x0102_0304_0506, incoming(102)), (1 << 63, divert(0))] {
+    let activation = Kind::Asked {
+        panel: number(7),
+        identifier: 0,
+        ask: Ask::Activation {
+            forward: Forward::Cfb,
+            destination: number(0x0708),
+        },
+    };
+    let check = Kind::Ask {
+        panel: number(7),
+        ask: Ask::Check,
+    };
+    for (time, kind) in [
+        (0x0102_0304_0506, incoming(102)),
+        (0x0102_0304_0507, activation),
+        (1 << 63, check),
+    ] {
         let told = station.step(&mut table, &Event::at(time, kind));
         assert!(told.is_ok(), "{told:?}");
     }
     let mut bytes = station.to_bytes();
-    assert_eq!(bytes[10..], [5, 0, 0, 0, 0, 0]);
+    assert_eq!(bytes[10..64], [[5].as_slice(), &[0; 53]].concat());
     assert_eq!(bytes[..8], (1_u64 << 63).to_ne_bytes());
     assert_eq!(bytes[8..10], 1_u16.to_ne_bytes());
-    bytes[15] = 7;
+    assert_eq!(bytes[64..72], (1_u64 << 63).to_ne_bytes());
+    assert_eq!(bytes[72..74], 65535_u16.to_ne_bytes());
+    assert_eq!(bytes[74..80], [1, 0, 0, 0, 0, 0]);
+    assert_eq!(bytes[80..82], [0, 0]);
+    assert_eq!(bytes[82..84], 0x0708_u16.to_ne_bytes());
+    assert_eq!(bytes[84..], [0, 0, 1, 1]);
+    let padding = |at: &usize| (11..16).contains(&(at % 16)) && *at < 80;
+    (0..88).filter(padding).for_each(|at| bytes[at] = 7);
     assert_eq!(Station::from_bytes(bytes), station);
     assert_eq!(Station::from_bytes(bytes).to_bytes(), station.to_bytes());
+    for at in (0..88).filter(|at| !padding(at)) {
+        let mut other = bytes;
+        other[at] ^= 2;
+        assert_ne!(Station::from_bytes(other), station, "byte {at}");
+    }
+}
+
+#[test]
+fn a_station_of_format_2() {
+    let mut kept = [7; 16]; // padding
+    kept[..8].copy_from_slice(&9_u64.to_ne_bytes());
+    kept[8..10].copy_from_slice(&8_u16.to_ne_bytes());
+    kept[10] = 5;
+    for (enabled, allowed) in [(true, false), (false, true)] {
+        let mut station = Station::from_format_2(kept, enabled, allowed);
+        assert_eq!(station, Station::kept(9, 8, 5, enabled, allowed));
+        assert_eq!((station.last(), station.next_identifier()), (9, 8));
+        assert_eq!(
+            (station.is_enabled(), station.is_allowed()),
+            (enabled, allowed)
+        );
+        assert!(Sort::ALL
+            .iter()
+            .all(|&sort| station.pending(sort).is_none()));
+        assert!(Forward::ALL
+            .iter()
+            .all(|&of| station.destination(of).is_none()));
+        let told = station.step(&mut [Call::FREE], &Event::at(9, incoming(102)));
+        assert!(told.is_ok(), "{told:?}");
+    }
 }
 
 #[test]
@@ -194,7 +262,7 @@ fn a_kept_identifier_0_is_refused() {
     let open = Event::at(1, incoming(102));
     let mut table = [Call::FREE; 1];
     for next in [0, 1, 65535] {
-        let told = Station::kept(0, next, 15).step(&mut table.clone(), &open);
+        let told = Station::kept(0, next, 15, true, true).step(&mut table.clone(), &open);
         assert_eq!(told.err(), (next == 0).then_some(Refusal::NotSound));
     }
     let mut station = Station::short();

@@ -26,7 +26,7 @@ fn unnamed<T>(of: fn(u8) -> T, other: fn(&T) -> bool, number: fn(T) -> u8) -> us
 #[test]
 fn every_number_is_kept() {
     let other = |refusal: &Refusal| matches!(refusal, Refusal::Other(_));
-    assert_eq!(unnamed(Refusal::of, other, Refusal::number), 256 - 8);
+    assert_eq!(unnamed(Refusal::of, other, Refusal::number), 256 - 9);
     let other = |reason: &Reason| matches!(reason, Reason::Other(_));
     assert_eq!(unnamed(Reason::of, other, Reason::number), 256 - 4);
     let other = |ending: &Ending| matches!(ending, Ending::Other(_));
@@ -54,8 +54,10 @@ fn no_letter_is_dropped() {
             let plain = PlainMessage {
                 letter,
                 leg,
+                reason: 1,
                 destination: 300,
                 diverting: 102,
+                number: 3,
                 ..PlainMessage::default()
             };
             let sent = Message::read(&plain).expect("a message");
@@ -66,7 +68,7 @@ fn no_letter_is_dropped() {
             }
         }
     }
-    assert_eq!(known, 2 * "ACDIREXSF".len());
+    assert_eq!(known, 2 * "ACDIREXSF".len() + "adicre".len());
     assert_eq!(Message::read(&PlainMessage::default()), None);
 }
 
@@ -89,6 +91,16 @@ fn arguments_that_are_not_known_are_kept() {
         ..setup
     };
     assert_eq!(Message::read(&to_nobody), Some(Message::Other(to_nobody)));
+    for (letter, reason, number) in [(b'a', 1, 0), (b'd', 0, 3), (b'i', 4, 3), (b'c', 0, 0)] {
+        let odd = PlainMessage {
+            letter,
+            reason,
+            number,
+            destination: 300,
+            ..PlainMessage::default()
+        };
+        assert_eq!(Message::read(&odd), Some(Message::Other(odd)));
+    }
     let told = |notice| {
         let answer = raw::Answer {
             notice,

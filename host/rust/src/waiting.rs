@@ -193,7 +193,7 @@ fn a_request_of_format_1() {
     assert_eq!((request.reason, call.counter()), (Reason::Cfb, Some(3)));
     let numbers = [call.own(), call.diverting(), call.original()];
     assert_eq!(numbers, [102, 103, 104].map(Number::new));
-    let mut station = Station::kept(1, 8, 5);
+    let mut station = Station::kept(1, 8, 5, true, true);
     let clock = Event::at(10_001, Kind::Clock);
     let told = station.step(&mut [call], &clock).expect("a sound record");
     assert_eq!((told.call, told.identifier), (Some(0), Some(7)));

@@ -2,7 +2,7 @@
 use mathlib.Core.Path.{refl, sym, _∙_}
 use native.Mathlib.Omega.{arith}
 use borrow.Author.Needs.{needs}
-use Rattle.turn.specs.declared.Turn.the-variants.{Refused, NoneDue, Done}
+use Rattle.turn.specs.declared.Turn.the-variants.{Refused, Far, Done}
 use Rattle.lent.proofs.Laws.{by-refusal, by-turn, has-rule, there}
 use Rattle.lent.proofs.decided_on.Statement.{statement}
 use Rattle.lent.proofs.decided_on.Tie as tie
@@ -25,13 +25,13 @@ returns-2 c =
 
 returns-3 : tie.Need-returns-3
 returns-3 c =
-    let g = c .before .before .enum-told .given in
-    let r = c .before .before .before .before in
+    let g = c .before .before .before .enum-told .given in
+    let r = c .before .before .before .before .before in
     let k = r .before .before .before in
     let a = k .before .before .before .args in
-    c .unchanged3 .ensures ∙ rw (c .before .station-on .ensures)
+    c .moved .ensures ∙ rw (c .before .station-far .ensures, c .before .before .step .ensures)
     (by-turn (a .input) (a .v) (a .n) (a .p) (a .c) (k .in-bounds .result) (k .in-bounds .ensures) (r .before .place-seen .result) (r .before .place-seen .ensures)
-    NoneDue (sym (r .turned .ensures) ∙ g .1) (r .before .before .if1 .left))
+    Far (sym (r .turned .ensures) ∙ g .1) (r .before .before .if1 .left))
 
 acted-requires : tie.Need-acted-requires
 acted-requires c κs =
@@ -58,7 +58,7 @@ returns-4 c =
     let r = c .before .before .before .before .before in
     let k = r .before .before .before in
     let a = k .before .before .before .args in
-    c .changed .ensures ∙ rw (c .before .station-on2 .ensures, c .before .before .acted .ensures)
+    c .changed .ensures ∙ rw (c .before .station-on .ensures, c .before .before .acted .ensures)
     (by-turn (a .input) (a .v) (a .n) (a .p) (a .c) (k .in-bounds .result) (k .in-bounds .ensures) (r .before .place-seen .result) (r .before .place-seen .ensures)
     Done (sym (r .turned .ensures) ∙ g .1) (r .before .before .if1 .left))
 
@@ -66,4 +66,4 @@ pub decided-on-spec : {M : Type 1} → statement M
 decided-on-spec =
     tie.close
     (tie.spec (λ c κs. tt) (λ c κs. tt) returns (λ c κs. tt) (λ c κs. tt) (λ c. search needs) (λ c κs. tt) returns-2 (λ c. search needs) (λ c κs. tt)
-    (λ c κs. tt) returns-3 (λ c. search needs) acted-requires (λ c κs. tt) changed-requires returns-4)
+    (λ c κs. tt) (λ c κs. tt) returns-3 (λ c. search needs) acted-requires (λ c κs. tt) changed-requires returns-4)

@@ -75,8 +75,8 @@ use Rattle.lent.proofs.picked.Code.Mir as mir
 abbrev stayed : Stays (picked′.ended .signature .params) (picked′.ended .kept)
 stayed = (stay-none-slice (0 ∷ []) tt (plain (λ _. R)) yes, (stay-none (λ _. usize) yes, (stay-none (λ _. N.the-row) yes, (stay-none (λ _. I.the-row) yes, tt))))
 
-module _ {M : Type 1} (𝓤 : URA M) (H : Heap 𝓤) (A : Atoms 𝓤) (W : Given 𝓤 H A) (mem : Memory → SProp 𝓤) (run : Routine → Fun 𝓤) (κ : Lft) (q : Share) (b o : ℕ) (γ : GName) (ys : List Call) (n : ℕ) (v : Noted) (input : Input)
-    (gn : n < 2 ^ 64) (gv : IsN v) (gi : IsI input) (room : Room R (length ys)) (ok : (n ≤ length ys) × (n ≤ 64)) where
+module _ {M : Type 1} (𝓤 : URA M) (H : Heap 𝓤) (A : Atoms 𝓤) (W : Given 𝓤 H A) (mem : Memory → SProp 𝓤) (run : Routine → Fun 𝓤) (κ : Lft) (q : Share) (b o : ℕ) (γ : GName) (ys : List Call) (n : ℕ) (v : Noted) (input : Input) (u₀ : Val)
+    (gn : n < 2 ^ 64) (gv : IsN v) (gi : IsI input u₀) (room : Room R (length ys)) (ok : (n ≤ length ys) × (n ≤ 64)) where
   abbrev x : RefT (List Call)
   x = slice-at b o γ ys
 
@@ -90,7 +90,7 @@ module _ {M : Type 1} (𝓤 : URA M) (H : Heap 𝓤) (A : Atoms 𝓤) (W : Given
   s = sliceVal (b, o) (length ys)
 
   abbrev at : Vals picked′.signature (κ, tt)
-  at = (s ∷ [], (vint w64 n ∷ [], (N′.lowered v ∷ [], (I′.lowered input ∷ [], tt))))
+  at = (s ∷ [], (vint w64 n ∷ [], (N′.lowered v ∷ [], (u₀ ∷ [], tt))))
 
   abbrev bound : walkOf 𝓤 H A picked′.ended stayed (picked′.clauses 𝓤 H A mem run) .Ghost
   bound = (((κ, tt), (q, tt), tt, a, at), tt)
@@ -105,7 +105,7 @@ module _ {M : Type 1} (𝓤 : URA M) (H : Heap 𝓤) (A : Atoms 𝓤) (W : Given
   exits p g e =
       qed W (‵ Own ∷ ‵ (flft κ q) ∷ []) ∵
       suffices ! _ (ends-at 𝓤 H A picked′.ended stayed (picked′.clauses 𝓤 H A mem run) W bound (P′.lowered p) p (tt, (tt, (tt, (tt, tt)))) (tt, (tt, (tt, (tt, tt))))) $ says ! e $
-      nothing ! $ move ! (2 ∷ 0 ∷ []) $ join ! $ frame ! $ nothing ! $ owned ! I.the-row (Is I.the-row) (LL.makes I.the-type I′.the-plain 𝓤 H A) input (I′.lowered input ∷ []) gi $ fjoin ! $
+      nothing ! $ move ! (2 ∷ 0 ∷ []) $ join ! $ frame ! $ nothing ! $ owned ! I.the-row (Is I.the-row) (LL.makes I.the-type I′.the-plain 𝓤 H A) input (u₀ ∷ []) gi $ fjoin ! $
       owned ! N.the-row (Is N.the-row) (LL.makes N.the-type N′.the-plain 𝓤 H A) v (N′.lowered v ∷ []) gv $ fjoin ! $ owned ! usize (Is usize) (uint-makes 𝓤 H A W w64) n (vint w64 n ∷ []) (refl, gn) $ fjoin ! $
       move ! (1 ∷ 0 ∷ []) $ fjoin ! $ owned ! P.the-row (Is P.the-row) (LL.makes P.the-type P′.the-plain 𝓤 H A) p (P′.lowered p ∷ []) g $ move ! (1 ∷ 0 ∷ []) $ done !
 
@@ -117,7 +117,7 @@ module _ {M : Type 1} (𝓤 : URA M) (H : Heap 𝓤) (A : Atoms 𝓤) (W : Given
 
     -- what table owns; the token; local k at 14 − 2 · k, and after it that it dies
     abbrev At : List (Item 𝓤)
-    At = ‵ Own ∷ ‵ (flft κ q) ∷ ‵ (fat fullShare tyBool l₆ 0 (vbool t)) ∷ ‵ (fdies tyBool l₆) ∷ ‵ (froom cells l₅ 0) ∷ ‵ (fdies cells l₅) ∷ ‵ (fat fullShare I′.mir l₄ 0 (I′.lowered input)) ∷ ‵ (fdies I′.mir l₄)
+    At = ‵ Own ∷ ‵ (flft κ q) ∷ ‵ (fat fullShare tyBool l₆ 0 (vbool t)) ∷ ‵ (fdies tyBool l₆) ∷ ‵ (froom cells l₅ 0) ∷ ‵ (fdies cells l₅) ∷ ‵ (fat fullShare I′.mir l₄ 0 u₀) ∷ ‵ (fdies I′.mir l₄)
         ∷ ‵ (fat fullShare N′.mir l₃ 0 (N′.lowered v)) ∷ ‵ (fdies N′.mir l₃) ∷ ‵ (fat fullShare (tyInt w64) l₂ 0 (vint w64 n)) ∷ ‵ (fdies (tyInt w64) l₂)
         ∷ ‵ (fat fullShare shared l₁ 0 s) ∷ ‵ (fdies shared l₁) ∷ ‵ (froom P′.mir l₀ 0) ∷ ‵ (fdies P′.mir l₀) ∷ []
 
@@ -125,8 +125,8 @@ module _ {M : Type 1} (𝓤 : URA M) (H : Heap 𝓤) (A : Atoms 𝓤) (W : Given
     else-ends : T (not t) → Sq W At (runs C Λ En mir.t-3 (atRet En Post))
     else-ends failed =
         -- `as_it_stands`
-        use0 W (raw (Stands 𝓤 H A mem run .pre (to-stands 𝓤 H A mem run input))) (goes-stands 𝓤 H A mem run W input gi) $
-        calls-at ! fm (Stands 𝓤 H A mem run) known-stands (to-stands 𝓤 H A mem run input) (and-then ! (load ! (from ! (stop !)) (look ! 7 refl)) (no-more !)) (λ w₄.
+        use0 W (raw (Stands 𝓤 H A mem run .pre (to-stands 𝓤 H A mem run input u₀))) (goes-stands 𝓤 H A mem run W input u₀ gi) $
+        calls-at ! fm (Stands 𝓤 H A mem run) known-stands (to-stands 𝓤 H A mem run input u₀) (and-then ! (load ! (from ! (stop !)) (look ! 7 refl)) (no-more !)) (λ w₄.
         use1 W (later (some (λ (t : Pick). (‵ ftrue ⊛ ‵ (P.the-row .own t (w₄ ∷ []))) ⊛ raw (ensured 𝓤 H A stands.ended (stands.clauses 𝓤 H A mem run) tt (input, tt) tt t)))) (id⊢ 𝓤 _) $ await ! tt $ pick ! (λ p.
         split ! $ move ! (1 ∷ []) $ use1 W (raw (fact 𝓤 (p ≡ asItStands input))) (stands-of 𝓤 H A mem run input p) $ heard ! (p ≡ asItStands input) (λ e₄. split ! $ drop ! $
         peeks ! P.the-row (Is P.the-row) (shows 𝓤 H A P.the-row) p (w₄ ∷ []) (λ gp.
@@ -150,8 +150,8 @@ module _ {M : Type 1} (𝓤 : URA M) (H : Heap 𝓤) (A : Atoms 𝓤) (W : Given
         move ! (1 ∷ []) $ split ! $ move ! (2 ∷ 3 ∷ 0 ∷ []) $
         -- [what the array owns; what table owns; the token; true; _6; …]
         -- `from_column`
-        use1 W (raw (FromColumn 𝓤 H A mem run .pre (to-from-column 𝓤 H A mem run input v h w₂))) (goes-from-column 𝓤 H A mem run W input v h w₂ gi gv) $
-        calls-at ! fm (FromColumn 𝓤 H A mem run) known-from-column (to-from-column 𝓤 H A mem run input v h w₂) (and-then ! (load ! (from ! (stop !)) (look ! 8 refl)) (and-then ! (load ! (from ! (stop !)) (look ! 10 refl)) (and-then ! (load ! (from ! (stop !)) (look ! 6 refl)) (no-more !)))) (λ w₃.
+        use1 W (raw (FromColumn 𝓤 H A mem run .pre (to-from-column 𝓤 H A mem run input u₀ v h w₂))) (goes-from-column 𝓤 H A mem run W input u₀ v h w₂ gi gv) $
+        calls-at ! fm (FromColumn 𝓤 H A mem run) known-from-column (to-from-column 𝓤 H A mem run input u₀ v h w₂) (and-then ! (load ! (from ! (stop !)) (look ! 8 refl)) (and-then ! (load ! (from ! (stop !)) (look ! 10 refl)) (and-then ! (load ! (from ! (stop !)) (look ! 6 refl)) (no-more !)))) (λ w₃.
         use1 W (later (some (λ (t : Pick). (‵ ftrue ⊛ ‵ (P.the-row .own t (w₃ ∷ []))) ⊛ raw (ensured 𝓤 H A from-column.ended (from-column.clauses 𝓤 H A mem run) tt (input, (v, (h, tt))) tt t)))) (id⊢ 𝓤 _) $ await ! tt $ pick ! (λ p.
         split ! $ move ! (1 ∷ []) $ use1 W (raw (fact 𝓤 (p ≡ fromColumn input v h))) (from-column-of 𝓤 H A mem run input v h p) $ heard ! (p ≡ fromColumn input v h) (λ e₃. split ! $ drop ! $
         peeks ! P.the-row (Is P.the-row) (shows 𝓤 H A P.the-row) p (w₃ ∷ []) (λ gp.
@@ -162,15 +162,15 @@ module _ {M : Type 1} (𝓤 : URA M) (H : Heap 𝓤) (A : Atoms 𝓤) (W : Given
         (λ failed. skips ! $ exec ! C Λ En mir.t-3 (atRet En Post) $ else-ends failed)
 
   module _ (C : Calls 𝓤 H) (Λ : Loops 𝓤 H) (fm : FmC 𝓤 H (W .laws) C) (known-wants : Triple 𝓤 (C wants-def.name) (Wants 𝓤 H A mem run)) (known-column : Triple 𝓤 (C column-def.name) (Column 𝓤 H A mem run)) (known-from-column : Triple 𝓤 (C from-column-def.name) (FromColumn 𝓤 H A mem run)) (known-stands : Triple 𝓤 (C stands-def.name) (Stands 𝓤 H A mem run)) where
-    walk : ent 𝓤 (onEntry 𝓤 H A picked′.signature (κ, tt) (q, tt) a at) (WpFn 𝓤 H C Λ code.function (s ∷ vint w64 n ∷ N′.lowered v ∷ I′.lowered input ∷ []) Post)
+    walk : ent 𝓤 (onEntry 𝓤 H A picked′.signature (κ, tt) (q, tt) a at) (WpFn 𝓤 H C Λ code.function (s ∷ vint w64 n ∷ N′.lowered v ∷ u₀ ∷ []) Post)
     walk =
-        qed W ((‵ (flft κ q) ⊛ ‵ ftrue) ∷ ‵ (owns (ShrSlice (named 0) κ R ∷ usize ∷ N.the-row ∷ I.the-row ∷ []) a at) ∷ []) ∵ enter ! C Λ code.function (s ∷ vint w64 n ∷ N′.lowered v ∷ I′.lowered input ∷ []) _ $
+        qed W ((‵ (flft κ q) ⊛ ‵ ftrue) ∷ ‵ (owns (ShrSlice (named 0) κ R ∷ usize ∷ N.the-row ∷ I.the-row ∷ []) a at) ∷ []) ∵ enter ! C Λ code.function (s ∷ vint w64 n ∷ N′.lowered v ∷ u₀ ∷ []) _ $
         alloc1 ! (λ l₀. alloc1 ! (λ l₁. alloc1 ! (λ l₂. alloc1 ! (λ l₃. alloc1 ! (λ l₄. alloc1 ! (λ l₅. alloc1 ! (λ l₆. alloc0 ! $ params1 ! $
         pass1 ! (init ! 10 refl (tt, (tt, (record { fits = room .0 }, tt)))) $ pass1 ! (init ! 8 refl (tt, record { fits = gn })) $ pass1 ! (init ! 6 refl (LL.lawful N.the-type N′.the-laws 𝓤 H A W .typed v _ gv .0)) $ pass1 ! (init ! 4 refl (LL.lawful I.the-type I′.the-laws 𝓤 H A W .typed input _ gi .0)) $ pass0 ! $
         move ! (15 ∷ []) $ fsplit ! $ move ! (16 ∷ []) $ split ! $ move ! (2 ∷ 0 ∷ []) $ move ! (2 ∷ []) $ drop ! $ move ! (2 ∷ []) $ drop ! $
         -- `wants_column`
-        use0 W (raw (Wants 𝓤 H A mem run .pre (to-wants 𝓤 H A mem run v input))) (goes-wants 𝓤 H A mem run W v input gv gi) $
-        calls-at ! fm (Wants 𝓤 H A mem run) known-wants (to-wants 𝓤 H A mem run v input) (and-then ! (load ! (from ! (stop !)) (look ! 9 refl)) (and-then ! (load ! (from ! (stop !)) (look ! 7 refl)) (no-more !))) (λ w₁.
+        use0 W (raw (Wants 𝓤 H A mem run .pre (to-wants 𝓤 H A mem run v input u₀))) (goes-wants 𝓤 H A mem run W v input u₀ gv gi) $
+        calls-at ! fm (Wants 𝓤 H A mem run) known-wants (to-wants 𝓤 H A mem run v input u₀) (and-then ! (load ! (from ! (stop !)) (look ! 9 refl)) (and-then ! (load ! (from ! (stop !)) (look ! 7 refl)) (no-more !))) (λ w₁.
         use1 W (later (some (λ (t : Bool). (‵ ftrue ⊛ ‵ (bool .own t (w₁ ∷ []))) ⊛ raw (ensured 𝓤 H A wants.ended (wants.clauses 𝓤 H A mem run) tt (v, (input, tt)) tt t)))) (id⊢ 𝓤 _) $ await ! tt $ pick ! (λ t.
         split ! $ move ! (1 ∷ []) $ use1 W (raw (fact 𝓤 (t ≡ wantsColumn v input))) (wants-of 𝓤 H A mem run v input t) $ heard ! (t ≡ wantsColumn v input) (λ e₁. split ! $ drop ! $
         peeks ! bool (Is bool) (shows 𝓤 H A bool) t (w₁ ∷ []) (λ gt.
@@ -182,7 +182,7 @@ module _ {M : Type 1} (𝓤 : URA M) (H : Heap 𝓤) (A : Atoms 𝓤) (W : Given
   picked-walks : Walks 𝓤 H A picked′.ended stayed (WpFn 𝓤 H (𝓣 .C) (𝓣 .Λ) code.function) (picked′.clauses 𝓤 H A mem run)
   picked-walks = walked 𝓤 H A picked′.ended stayed (picked′.clauses 𝓤 H A mem run) (WpFn 𝓤 H (𝓣 .C) (𝓣 .Λ) code.function) (λ κs. (slice-vals, (uint-vals w64, (LL.vals N.the-type N′.the-laws, (LL.vals I.the-type I′.the-laws, tt))))) (λ κs. (shr-slice-tells (named 0) (κs .0) R, (uint-tells w64, (LL.tells N.the-type N′.the-laws, (LL.tells I.the-type I′.the-laws, tt)))))
       (λ κs qs bounds a g are. needs 𝓤 _ _ (λ ok.
-      walk 𝓤 H A W mem run (κs .0) (qs .0) (a .0 .ptr .0) (a .0 .ptr .1) (a .0 .name) (a .0 .now) (a .1 .0) (a .1 .1 .0) (a .1 .1 .1 .0) (are .1 .0 .1) (are .1 .1 .0) (are .1 .1 .1 .0) (are .0 .0 .1) ok (𝓣 .C) (𝓣 .Λ) (fmOf 𝓤 H (W .laws) 𝓣) known-wants known-column known-from-column known-stands))
+      walk 𝓤 H A W mem run (κs .0) (qs .0) (a .0 .ptr .0) (a .0 .ptr .1) (a .0 .name) (a .0 .now) (a .1 .0) (a .1 .1 .0) (a .1 .1 .1 .0) (I′.lowered (a .1 .1 .1 .0)) (are .1 .0 .1) (are .1 .1 .0) (are .1 .1 .1 .0) (are .0 .0 .1) ok (𝓣 .C) (𝓣 .Λ) (fmOf 𝓤 H (W .laws) 𝓣) known-wants known-column known-from-column known-stands))
 
   picked-meets : Meets 𝓤 H A picked′.signature (WpFn 𝓤 H (𝓣 .C) (𝓣 .Λ) code.function) (picked′.spec 𝓤 H A mem run)
   picked-meets = walk-meets 𝓤 H A picked′.ended stayed W (goes-none-slice 𝓤 H A W 1 (0 ∷ []) tt (plain (λ _. R)) yes, (goes-none 𝓤 H A W 1 (λ _. usize) yes (λ κs x f. refl), (goes-none 𝓤 H A W 1 (λ _. N.the-row) yes (λ κs x f. refl), (goes-none 𝓤 H A W 1 (λ _. I.the-row) yes (λ κs x f. refl), tt))))

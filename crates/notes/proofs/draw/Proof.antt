@@ -14,17 +14,17 @@ use Rattle.notes.proofs.draw.Statement.{statement}
 use Rattle.notes.proofs.draw.Tie as tie
 
 abbrev Inv-loop : tie.InvT-loop
-Inv-loop held next candidate tries wanted i₀ i = (i ≤ 64) × (any (eqb (candidate + 1)) (take i held) ≡ false)
+Inv-loop held next candidate tries wanted i₀ i = (i ≤ 68) × (any (eqb (candidate + 1)) (take i held) ≡ false)
 
 abbrev μ-loop : tie.MeasureT-loop
-μ-loop held next candidate tries wanted i₀ i = 64 - i
+μ-loop held next candidate tries wanted i₀ i = 68 - i
 
 abbrev Inv-candidate : tie.InvT-candidate
 Inv-candidate held next candidate₀ tries₀ candidate tries =
-    (tries ≤ 65) × (candidate < 65536) × (firstFreeIn (65 - tries) held candidate ≡ firstFreeIn 65 held next)
+    (tries ≤ 69) × (candidate < 65536) × (firstFreeIn (69 - tries) held candidate ≡ firstFreeIn 69 held next)
 
 abbrev μ-candidate : tie.MeasureT-candidate
-μ-candidate held next candidate₀ tries₀ candidate tries = 65 - tries
+μ-candidate held next candidate₀ tries₀ candidate tries = 69 - tries
 
 loop-holds : tie.Need-loop-holds Inv-loop μ-loop Inv-candidate μ-candidate
 unfolding any
@@ -35,7 +35,7 @@ loop-again c =
     let at = c .before .before .before in
     let k = at .before .before .candidate in
     let l = at .before .before .before .args .held .now in
-    let long : length l ≡ 64 = omega arith in
+    let long : length l ≡ 68 = omega arith in
     (omega arith, any-on (eqb (k .candidate + 1)) l (at .loop .i) 0 (omega arith) (at .loop .inv .1) (ne-eqb _ _ (λ e. c .if1 .left (sym e))))
 
 candidate-again : tie.Need-candidate-again Inv-loop μ-loop Inv-candidate μ-candidate
@@ -43,17 +43,17 @@ candidate-again c =
     let at = c .before .before .before .before in
     let k = at .before .before .candidate in
     let l = at .before .before .before .args .held .now in
-    let long : length l ≡ 64 = omega arith in
+    let long : length l ≡ 68 = omega arith in
     let hit = any-at (eqb (k .candidate + 1)) l (at .loop .i) 0 (omega arith) (eq-eqb _ _ (sym (c .before .if1 .taken))) in (
       omega arith,
       omega (arith, c .next-after .ensures),
-      rw (c .next-after .ensures) (sym (free-step (65 - k .tries) (65 - (k .tries + 1)) l (k .candidate) (omega arith) hit) ∙ k .inv .2),
+      rw (c .next-after .ensures) (sym (free-step (69 - k .tries) (69 - (k .tries + 1)) l (k .candidate) (omega arith) hit) ∙ k .inv .2),
     )
 
 returns : tie.Need-returns Inv-loop μ-loop Inv-candidate μ-candidate
 returns c =
     let k = c .before .candidate in
-    let e : 65 - k .tries ≡ 0 = omega arith in
+    let e : 69 - k .tries ≡ 0 = omega arith in
     sym (free-none (c .before .before .args .held .now) (k .candidate)) ∙ (rw e at (k .inv .2))
 
 returns-2 : tie.Need-returns-2 Inv-loop μ-loop Inv-candidate μ-candidate
@@ -61,10 +61,10 @@ returns-2 c =
     let at = c .before in
     let k = at .before .before .candidate in
     let l = at .before .before .before .args .held .now in
-    let long : length l ≡ 64 = omega arith in
-    let e : at .loop .i ≡ 64 = omega arith in
-    let none = rw (e, take-all 64 l (omega arith)) at (at .loop .inv .1) in
-    sym (free-found (65 - k .tries) (64 - k .tries) l (k .candidate) (omega arith) none) ∙ k .inv .2
+    let long : length l ≡ 68 = omega arith in
+    let e : at .loop .i ≡ 68 = omega arith in
+    let none = rw (e, take-all 68 l (omega arith)) at (at .loop .inv .1) in
+    sym (free-found (69 - k .tries) (68 - k .tries) l (k .candidate) (omega arith) none) ∙ k .inv .2
 
 pub draw-spec : {M : Type 1} → statement M
 draw-spec =

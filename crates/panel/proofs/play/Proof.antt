@@ -13,9 +13,9 @@ use Rattle.turn.specs.declared.Seen.{Seen}
 use Rattle.board.specs.Board.{stepSoundBoard, within}
 use Rattle.board.proofs.Boards.{tested-short, within-small, within-near}
 use Rattle.board.proofs.Beside.{notes, boardNow, Beside, beside-start, beside-soon, beside-next, may-flip}
-use Rattle.board.proofs.Steps.{turn-refused, turn-none, turn-there, turn-doable, turn-done}
+use Rattle.board.proofs.Steps.{turn-refused, turn-far, turn-there, turn-doable, turn-done}
 use Rattle.panel.proofs.Playing.{Playing, playing-start, played-text, played-board}
-use Rattle.panel.proofs.InPlace.{playing-refused, playing-none, playing-done}
+use Rattle.panel.proofs.InPlace.{playing-refused, playing-far, playing-done}
 use Rattle.panel.proofs.play.Statement.{statement}
 use Rattle.panel.proofs.play.Tie as tie
 
@@ -72,11 +72,11 @@ refresh-requires c κs =
 
 add-write-line-2 : tie.Need-add-write-line-2 Inv-loop μ-loop
 add-write-line-2 c =
-    omega (arith, c .before .before .before .before .before .before .before .before .before .before .before .before .before .before .before .before .loop, c .before .before .before .before .before .before .before .before .before .before .before .before .before .before .before .loop-test, c .before .before .before .before .before .before .before .before .before .before .before .before .before .before .before .before .before .before .before .before .before .before .before .before .before .good, c .before .before .before .before .before .before .before .before .before .before .before .before .before .before .before .before .before .before .before .before .before .before .before .before .before .pre, c .before .before .before .before .before .before .before .before .before .before .before .before .before .before .before .before .before .before .before .before .before .before .least .ensures, c .before .before .before .before .before .before .before .before .before .before .before .before .before .before .before .before .before .before .before .before .before .before .before .before .before .fits, tested-short (c .before .before .before .before .before .before .before .before .before .before .before .before .before .before .before .before .before .before .before .before .before .before .before .before .before .args .b) (c .before .before .before .before .before .before .before .before .before .before .before .before .before .before .before .before .before .before .before .before .before .before .before .before .before .pre .0), c .before .before .before .before .before .before .before .before .before .before .before .before .before .before .before .before .loop .inv .0 .upto, c .before .before .before .before .before .before .before .before .before .before .before .before .before .before .before .before .loop .inv .0 .room, c .before .before .before .before .before .before .before .before .before .before .before .before .before .before .before .before .loop .inv .0 .same)
+    omega (arith, c .before .before .before .before .before .before .before .before .before .before .before .before .before .before .before .before .before .loop, c .before .before .before .before .before .before .before .before .before .before .before .before .before .before .before .before .loop-test, c .before .before .before .before .before .before .before .before .before .before .before .before .before .before .before .before .before .before .before .before .before .before .before .before .before .before .good, c .before .before .before .before .before .before .before .before .before .before .before .before .before .before .before .before .before .before .before .before .before .before .before .before .before .before .pre, c .before .before .before .before .before .before .before .before .before .before .before .before .before .before .before .before .before .before .before .before .before .before .before .least .ensures, c .before .before .before .before .before .before .before .before .before .before .before .before .before .before .before .before .before .before .before .before .before .before .before .before .before .before .fits, tested-short (c .before .before .before .before .before .before .before .before .before .before .before .before .before .before .before .before .before .before .before .before .before .before .before .before .before .before .args .b) (c .before .before .before .before .before .before .before .before .before .before .before .before .before .before .before .before .before .before .before .before .before .before .before .before .before .before .pre .0), c .before .before .before .before .before .before .before .before .before .before .before .before .before .before .before .before .before .loop .inv .0 .upto, c .before .before .before .before .before .before .before .before .before .before .before .before .before .before .before .before .before .loop .inv .0 .room, c .before .before .before .before .before .before .before .before .before .before .before .before .before .before .before .before .before .loop .inv .0 .same)
 
 write-line-requires-2 : tie.Need-write-line-requires-2 Inv-loop μ-loop
 write-line-requires-2 c κs =
-    omega (arith, c .before .before .before .before .before .before .before .before .before .before .before .before .before .before .before .before .loop, c .before .before .before .before .before .before .before .before .before .before .before .before .before .before .before .loop-test, c .before .before .before .before .before .before .before .before .before .before .before .before .before .before .before .before .before .before .before .before .before .before .before .before .before .good, c .before .before .before .before .before .before .before .before .before .before .before .before .before .before .before .before .before .before .before .before .before .before .before .before .before .pre, c .before .before .before .before .before .before .before .before .before .before .before .before .before .before .before .before .before .before .before .before .before .before .least .ensures, c .before .before .before .before .before .before .before .before .before .before .before .before .before .before .before .before .before .before .before .before .before .before .before .before .before .fits, tested-short (c .before .before .before .before .before .before .before .before .before .before .before .before .before .before .before .before .before .before .before .before .before .before .before .before .before .args .b) (c .before .before .before .before .before .before .before .before .before .before .before .before .before .before .before .before .before .before .before .before .before .before .before .before .before .pre .0), c .before .before .before .before .before .before .before .before .before .before .before .before .before .before .before .before .loop .inv .0 .upto, c .before .before .before .before .before .before .before .before .before .before .before .before .before .before .before .before .loop .inv .0 .room, c .before .before .before .before .before .before .before .before .before .before .before .before .before .before .before .before .loop .inv .0 .same)
+    omega (arith, c .before .before .before .before .before .before .before .before .before .before .before .before .before .before .before .before .before .loop, c .before .before .before .before .before .before .before .before .before .before .before .before .before .before .before .before .loop-test, c .before .before .before .before .before .before .before .before .before .before .before .before .before .before .before .before .before .before .before .before .before .before .before .before .before .before .good, c .before .before .before .before .before .before .before .before .before .before .before .before .before .before .before .before .before .before .before .before .before .before .before .before .before .before .pre, c .before .before .before .before .before .before .before .before .before .before .before .before .before .before .before .before .before .before .before .before .before .before .before .least .ensures, c .before .before .before .before .before .before .before .before .before .before .before .before .before .before .before .before .before .before .before .before .before .before .before .before .before .before .fits, tested-short (c .before .before .before .before .before .before .before .before .before .before .before .before .before .before .before .before .before .before .before .before .before .before .before .before .before .before .args .b) (c .before .before .before .before .before .before .before .before .before .before .before .before .before .before .before .before .before .before .before .before .before .before .before .before .before .before .pre .0), c .before .before .before .before .before .before .before .before .before .before .before .before .before .before .before .before .before .loop .inv .0 .upto, c .before .before .before .before .before .before .before .before .before .before .before .before .before .before .before .before .before .loop .inv .0 .room, c .before .before .before .before .before .before .before .before .before .before .before .before .before .before .before .before .before .loop .inv .0 .same)
 
 acted-requires : tie.Need-acted-requires Inv-loop μ-loop
 acted-requires c κs =
@@ -214,7 +214,7 @@ loop-again c =
     (λ y.
     let known = y .1 .given in
     let soon = beside-soon (b .len) (v .calls) (v .free) (v .soon) (v .dues) (v .held) w _ (e .time) (y .3 .ensures) in
-    rw (y .10, y .11, y .12, y .13, y .14, y .15, y .16, y .17) (playing-none b (a .args .position) (a .args .bytes .now) (a .args .out .now) (c .before .before .before .before .before .before .before .before .before .before .before .before .before .before .before .before .least .result) (v .s) (v .calls) (v .out) (v .at) (v .k) (v .inv .0) (c .before .before .before .before .before .before .before .before .before .loop-test .taken) e (ev .ensures) _ (y .7 .last .0) (y .7 .result) (rw (y .4 .ensures) (turn-none (boardNow b (v .s) (v .calls)) d e h w late seen refl (pl .ensures) there (id .ensures) (t .result) (t .ensures) (known .1))) (y .5 .result) (y .5 .ensures) (y .7 .ensures .0) (y .7 .ensures .1) wide (y .7 .kept .0), soon, rw (y .4 .ensures) (v .inv .2)))
+    rw (y .11, y .12, y .13, y .14, y .15, y .16, y .17, y .18) (playing-far b (a .args .position) (a .args .bytes .now) (a .args .out .now) (c .before .before .before .before .before .before .before .before .before .before .before .before .before .before .before .before .least .result) (v .s) (v .calls) (v .out) (v .at) (v .k) (v .inv .0) (c .before .before .before .before .before .before .before .before .before .loop-test .taken) e (ev .ensures) _ (y .4 .result) (y .8 .last .0) (y .8 .result) (rw (y .5 .ensures) (turn-far (boardNow b (v .s) (v .calls)) d e h w late seen refl (pl .ensures) there (id .ensures) (t .result) (t .ensures) (y .4 .result) (known .1) (y .4 .ensures))) (y .6 .result) (y .6 .ensures) (y .8 .ensures .0) (y .8 .ensures .1) wide (y .8 .kept .0), soon, rw (y .5 .ensures) (v .inv .2)))
     (λ y.
     let known = y .1 .given in
     let x = y .2 .result in
@@ -248,7 +248,7 @@ play-spec =
     (λ c κs. omega (arith, c .before .loop, c .loop-test, c .before .before .before .before .before .before .before .before .before .before .good, c .before .before .before .before .before .before .before .before .before .before .pre, c .before .before .before .before .before .before .before .least .ensures, c .before .before .before .before .before .before .before .before .before .before .fits, tested-short (c .before .before .before .before .before .before .before .before .before .before .args .b) (c .before .before .before .before .before .before .before .before .before .before .pre .0), c .before .loop .inv .0 .upto, c .before .loop .inv .0 .room, c .before .loop .inv .0 .same))
     place-on-requires (λ c κs. tt) mul-c array-copy-out-c identifier-in-requires (λ c κs. tt)
     (λ c. search needs) (λ c κs. tt) add-write-line write-line-requires
-    (λ c. search needs) refresh-requires (λ c κs. tt) (λ c κs. tt) add-write-line-2 write-line-requires-2
+    (λ c. search needs) refresh-requires (λ c κs. tt) (λ c κs. tt) (λ c κs. tt) add-write-line-2 write-line-requires-2
     (λ c. search needs) acted-requires mul-calls array-set-from-calls flip-requires (λ c κs. tt) mul-dues array-write-dues (λ c κs. tt) (λ c κs. tt) mul-held array-write-held (λ c κs. tt)
     cast-answer-of (λ c κs. tt) add-write-line-3 write-line-requires-3
     add-k loop-less loop-again

@@ -29,6 +29,16 @@ slice-reshare-prefix-write-all c = let p = c .before .before .before .before .pl
 slice-aggregate-write-all : tie.Need-slice-aggregate-write-all
 slice-aggregate-write-all c = let p = c .before .before .before .before .before .play in counts _ _ (omega (arith, written-within (p .ensures .text) (p .kept .1 .1 .1 .0)))
 
+-- what is left of the piece stands in the buffer
+carry-requires : tie.Need-carry-requires
+carry-requires c κs =
+    let p = c .before .before .before .before .before .before .before .before .play in
+    let got = c .before .before .before .before .before .before .before .before .before .before .before .before .before .before .before in
+    let start = got .before .before .before .before in
+    let used = used-within (start .args .board) (start .args .position) (got .read-behind .result .end) (got .read-behind .last .0) (start .args .output .now) (p .last .1 .1 .1 .0) (p .result) (p .ensures)
+    (omega (arith, got .read-behind)) (got .read-behind .kept .0 ∙ start .pre .3) (start .pre .4) in
+    omega (arith, used, got .read-behind)
+
 returns-3 : tie.Need-returns-3
 returns-3 c =
     let p = c .before .before .before .before .before .before .before .before .before .before .before .play in
@@ -51,5 +61,5 @@ turn-spec =
     (tie.spec
     (λ c κs. search needs) (λ c. search needs) (λ c κs. search needs) (λ c. search needs) (λ c. search needs) (λ c. search needs) (λ c. search needs)
     (λ c. search needs) slice-aggregate-play play-requires sub-rest slice-reshare-prefix-write-all slice-aggregate-write-all
-    (λ c κs. search needs) (λ c κs. search needs) (λ c. search needs) (λ c. search needs) returns-3 (λ c. search needs) (λ c κs. search needs)
+    (λ c κs. search needs) carry-requires (λ c. search needs) (λ c. search needs) returns-3 (λ c. search needs) (λ c κs. search needs)
     (λ c. search needs) (λ c. search needs) returns-4)

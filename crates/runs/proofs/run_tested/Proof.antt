@@ -13,9 +13,9 @@ use Rattle.turn.specs.declared.Seen.{Seen}
 use Rattle.board.specs.Board.{stepSoundBoard, within}
 use Rattle.board.proofs.Boards.{within-small, within-near}
 use Rattle.board.proofs.Beside.{notes, boardNow, Beside, beside-start, beside-soon, beside-next, may-flip}
-use Rattle.board.proofs.Steps.{turn-refused, turn-none, turn-there, turn-doable, turn-done}
+use Rattle.board.proofs.Steps.{turn-refused, turn-far, turn-there, turn-doable, turn-done}
 use Rattle.runs.proofs.Folds.{first-none}
-use Rattle.runs.proofs.Playing.{Playing, playing-refused, playing-none, playing-done}
+use Rattle.runs.proofs.Playing.{Playing, playing-refused, playing-far, playing-done}
 use Rattle.runs.proofs.run_tested.Statement.{statement}
 use Rattle.runs.proofs.run_tested.Tie as tie
 
@@ -65,7 +65,7 @@ refresh-requires c κs =
     c .before .before .before .before .before .before .before .before .before .before .before .before .loop .inv .1 .beside .wide
 
 add-done : tie.Need-add-done Inv-loop μ-loop
-add-done c = omega (arith, c .before .before .before .before .before .before .before .before .before .before .before .before .before .before .loop, c .before .before .before .before .before .before .before .before .before .before .before .before .before .loop-test, c .before .before .before .before .before .before .before .before .before .before .before .before .before .before .before .before .before .before .before .before .before .good, c .before .before .before .before .before .before .before .before .before .before .before .before .before .before .before .before .before .before .before .before .before .pre)
+add-done c = omega (arith, c .before .before .before .before .before .before .before .before .before .before .before .before .before .before .before .loop, c .before .before .before .before .before .before .before .before .before .before .before .before .before .before .loop-test, c .before .before .before .before .before .before .before .before .before .before .before .before .before .before .before .before .before .before .before .before .before .before .good, c .before .before .before .before .before .before .before .before .before .before .before .before .before .before .before .before .before .before .before .before .before .before .pre)
 
 acted-requires : tie.Need-acted-requires Inv-loop μ-loop
 acted-requires c κs =
@@ -186,7 +186,7 @@ loop-again c =
     (λ y.
     let known = y .1 .given in
     let soon = beside-soon (b .len) (v .calls) (v .free) (v .soon) (v .dues) (v .held) (w .beside) _ (e .time) (y .3 .ensures) in
-    (more, rw (y .5, y .6, y .7, y .8, y .9, y .10, y .11, y .12) (playing-none b (a .args .events .now) (v .calls) (v .s) d (v .done) (v .refused) (v .k) w e (ev .ensures) (notes (v .free) (y .3 .result) (v .dues) (v .held)) _ soon (rw (y .4 .ensures) (turn-none (boardNow b (v .s) (v .calls)) d e (a .pre) (w .beside) late seen refl (pl .ensures) there (id .ensures) (t .result) (t .ensures) (known .1)))), rw (y .6, y .4 .ensures) (v .inv .2)))
+    (more, rw (y .6, y .7, y .8, y .9, y .10, y .11, y .12, y .13) (playing-far b (a .args .events .now) (v .calls) (v .s) d (v .done) (v .refused) (v .k) w e (ev .ensures) (notes (v .free) (y .3 .result) (v .dues) (v .held)) _ (y .4 .result) soon (rw (y .5 .ensures) (turn-far (boardNow b (v .s) (v .calls)) d e (a .pre) (w .beside) late seen refl (pl .ensures) there (id .ensures) (t .result) (t .ensures) (y .4 .result) (known .1) (y .4 .ensures)))), rw (y .7, y .5 .ensures) (v .inv .2)))
     (λ y.
     let known = y .1 .given in
     let x = y .2 .result in
@@ -208,7 +208,7 @@ run-tested-spec =
     (tie.spec
     Inv-loop μ-loop (λ c κs. search needs) loop-holds (λ c. omega arith) (λ c κs. search needs) place-on-requires (λ c κs. tt) mul-c array-copy-out-c identifier-in-requires (λ c κs. tt)
     (λ c. search needs) add-refused
-    (λ c. search needs) refresh-requires (λ c κs. tt) add-done
+    (λ c. search needs) refresh-requires (λ c κs. tt) (λ c κs. tt) add-done
     (λ c. search needs) acted-requires mul-calls array-set-from-calls flip-requires (λ c κs. tt) mul-dues array-write-dues (λ c κs. tt) (λ c κs. tt) mul-held array-write-held (λ c κs. tt) add-done-2
     add-k loop-less loop-again
     returns)

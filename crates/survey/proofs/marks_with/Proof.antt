@@ -5,4 +5,4 @@ use Rattle.survey.proofs.marks_with.Statement.{statement}
 use Rattle.survey.proofs.marks_with.Tie as tie
 
 pub marks-with-spec : {M : Type 1} → statement M
-marks-with-spec = tie.close (tie.spec (λ c κs. search needs) (λ c κs. omega arith) (λ c. rw (c .with-bit .ensures, c .before .slot .ensures) (search ways)) (λ c. search ways))
+marks-with-spec = tie.close (tie.spec (λ c κs. search needs) (λ c κs. omega arith) (λ c. rw (c .with-bit .ensures, c .before .slot-of .ensures) (search ways)) (λ c. search ways))

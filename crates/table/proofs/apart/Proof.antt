@@ -14,7 +14,7 @@ use Rattle.table.proofs.apart.Tie as tie
 
 -- the numbers from i on are apart, and each has its mark
 abbrev Inv-loop : tie.InvT-loop
-Inv-loop held marks₀ i₀ marks i = (i ≤ 64) × (length marks ≡ 256) × (apartIn (drop i held) ≡ true) × (all (marked marks) (drop i held) ≡ true)
+Inv-loop held marks₀ i₀ marks i = (i ≤ 68) × (length marks ≡ 256) × (apartIn (drop i held) ≡ true) × (all (marked marks) (drop i held) ≡ true)
 
 abbrev μ-loop : tie.MeasureT-loop
 μ-loop held marks₀ i₀ marks i = i
@@ -22,14 +22,14 @@ abbrev μ-loop : tie.MeasureT-loop
 loop-holds : tie.Need-loop-holds Inv-loop μ-loop
 loop-holds c =
     let l = c .args .held .now in
-    let long : length l ≡ 64 = omega arith in
-    (omega arith, refl, apart-past l 64 (omega arith), marked-past (replicate 256 0) l 64 (omega arith))
+    let long : length l ≡ 68 = omega arith in
+    (omega arith, refl, apart-past l 68 (omega arith), marked-past (replicate 256 0) l 68 (omega arith))
 
 loop-again : tie.Need-loop-again Inv-loop μ-loop
 loop-again c =
     let at = c .before .before .before in
     let l = at .before .args .held .now in
-    let long : length l ≡ 64 = omega arith in
+    let long : length l ≡ 68 = omega arith in
     let v = at .loop in
     let k = v .i - 1 in
     let e : k + 1 ≡ v .i = omega arith in
@@ -41,7 +41,7 @@ loop-again-2 : tie.Need-loop-again-2 Inv-loop μ-loop
 loop-again-2 c =
     let at = c .before .before .before .before in
     let l = at .before .args .held .now in
-    let long : length l ≡ 64 = omega arith in
+    let long : length l ≡ 68 = omega arith in
     let v = at .loop in
     let k = v .i - 1 in
     let e : k + 1 ≡ v .i = omega arith in
@@ -60,7 +60,7 @@ loop-again-3 : tie.Need-loop-again-3 Inv-loop μ-loop
 loop-again-3 c =
     let at = c .before .before .before .before .before .before in
     let l = at .before .args .held .now in
-    let long : length l ≡ 64 = omega arith in
+    let long : length l ≡ 68 = omega arith in
     let v = at .loop in
     let k = v .i - 1 in
     let e : k + 1 ≡ v .i = omega arith in
@@ -72,7 +72,7 @@ returns : tie.Need-returns Inv-loop μ-loop
 returns c =
     let at = c .before .before .before .before .before .before in
     let l = at .before .args .held .now in
-    let long : length l ≡ 64 = omega arith in
+    let long : length l ≡ 68 = omega arith in
     let k = at .loop .i - 1 in
     let h : k < length l = omega (arith, at .loop .inv .0) in
     sym (apart-drop l k (apart-not l k h (c .before .before .before .if1 .left) (sym (c .before .stands-from .ensures) ∙ c .if3 .taken)))

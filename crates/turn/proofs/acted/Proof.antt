@@ -1,10 +1,11 @@
 -- Each arm by its kind: the effect is the rule's. Assumes nothing.
-use Prim.Native.Nat.{ℕ, suc, _≤_}
-use mathlib.Core.Path.{_≡_, _∙_}
+use Prim.Native.Nat.{ℕ, _≤_}
+use mathlib.Core.Path.{_∙_}
 use native.Mathlib.Omega.{arith}
 use Rattle.call.specs.Act.{act}
 use Rattle.call.specs.Incoming.{actIncoming}
 use Rattle.call.specs.Outgoing.{actOutgoing}
+use Rattle.turn.proofs.Sorts.{past-table}
 use Rattle.turn.proofs.acted.Statement.{statement}
 use Rattle.turn.proofs.acted.Tie as tie
 
@@ -68,16 +69,13 @@ returns-15 : tie.Need-returns-15
 unfolding act actIncoming actOutgoing
 returns-15 c = rw (c .before .match .keys15) (c .freed .ensures)
 
-past : (k m : ℕ) → m ≤ k → (k ≡ m → ⊥) → suc m ≤ k
-past k m h n = omega (arith, h, n)
-
 -- what is done has a kind of the table: `rest` says, from its end, not 15, 14 and so on
 returns-16 : tie.Need-returns-16
 returns-16 c =
     let d = c .before .before .before .pre in
     let n = c .before .match .rest in
     let k = c .before .before .before .args .e .kind in
-    let over : 16 ≤ k = past k 15 (past k 14 (past k 13 (past k 12 (past k 11 (past k 10 (past k 9 (past k 8 (past k 7 (past k 6 (past k 5 (past k 4 (past k 3 (past k 2 (past k 1 (d .0) (n .0 .0 .0 .0 .0 .0 .0 .0 .0 .0 .0 .0 .0 .0 .1)) (n .0 .0 .0 .0 .0 .0 .0 .0 .0 .0 .0 .0 .0 .1)) (n .0 .0 .0 .0 .0 .0 .0 .0 .0 .0 .0 .0 .1)) (n .0 .0 .0 .0 .0 .0 .0 .0 .0 .0 .0 .1)) (n .0 .0 .0 .0 .0 .0 .0 .0 .0 .0 .1)) (n .0 .0 .0 .0 .0 .0 .0 .0 .0 .1)) (n .0 .0 .0 .0 .0 .0 .0 .0 .1)) (n .0 .0 .0 .0 .0 .0 .0 .1)) (n .0 .0 .0 .0 .0 .0 .1)) (n .0 .0 .0 .0 .0 .1)) (n .0 .0 .0 .0 .1)) (n .0 .0 .0 .1)) (n .0 .0 .1)) (n .0 .1)) (n .1) in
+    let over = past-table k (d .0) (n .0 .0 .0 .0 .0 .0 .0 .0 .0 .0 .0 .0 .0 .0 .1) (n .0 .0 .0 .0 .0 .0 .0 .0 .0 .0 .0 .0 .0 .1) (n .0 .0 .0 .0 .0 .0 .0 .0 .0 .0 .0 .0 .1) (n .0 .0 .0 .0 .0 .0 .0 .0 .0 .0 .0 .1) (n .0 .0 .0 .0 .0 .0 .0 .0 .0 .0 .1) (n .0 .0 .0 .0 .0 .0 .0 .0 .0 .1) (n .0 .0 .0 .0 .0 .0 .0 .0 .1) (n .0 .0 .0 .0 .0 .0 .0 .1) (n .0 .0 .0 .0 .0 .0 .1) (n .0 .0 .0 .0 .0 .1) (n .0 .0 .0 .0 .1) (n .0 .0 .0 .1) (n .0 .0 .1) (n .0 .1) (n .1) in
     absurd (low k over (d .1))
   where
     low : (k : ℕ) → 16 ≤ k → k ≤ 15 → ⊥

@@ -10,37 +10,37 @@ returns : tie.Need-returns
 returns c =
     let a = c .before .before .before .before .args in
     let here : 3 ≡ later (a .s) (a .e) (a .seen) = rw (← c .before .well-made .ensures) (search ways depth 9) in
-    here ∙ number-later (a .s) (a .e) (a .seen) (c .before .before .before .before .pre .1)
+    here ∙ number-later (a .s) (a .e) (a .seen) _ (c .before .before .before .before .pre)
 
 returns-2 : tie.Need-returns-2
 returns-2 c =
     let a = c .before .before .before .before .before .before .before .args in
     let here : c .no-record .result ≡ later (a .s) (a .e) (a .seen) = rw (← c .before .before .wrong-call .ensures, ← c .before .before .before .before .well-made .ensures, c .before .before .before .if1 .left, c .before .if2 .taken, ← c .before .before .before .before .before .before .before .pre .0) (c .no-record .ensures) in
-    here ∙ number-later (a .s) (a .e) (a .seen) (c .before .before .before .before .before .before .before .pre .1)
+    here ∙ number-later (a .s) (a .e) (a .seen) _ (c .before .before .before .before .before .before .before .pre)
 
 returns-3 : tie.Need-returns-3
 returns-3 c =
     let a = c .before .before .before .before .before .before .before .before .args in
     let here : 5 ≡ later (a .s) (a .e) (a .seen) = rw (← c .before .before .before .wrong-call .ensures, ← c .before .before .before .before .before .well-made .ensures, c .before .before .before .before .if1 .left, c .before .before .if2 .left) (search asked depth 12) in
-    here ∙ number-later (a .s) (a .e) (a .seen) (c .before .before .before .before .before .before .before .before .pre .1)
+    here ∙ number-later (a .s) (a .e) (a .seen) _ (c .before .before .before .before .before .before .before .before .pre)
 
 returns-4 : tie.Need-returns-4
 returns-4 c =
     let a = c .before .before .before .before .before .before .before .before .before .before .args in
     let here : 6 ≡ later (a .s) (a .e) (a .seen) = rw (← c .before .before .before .before .before .wrong-call .ensures, ← c .before .before .before .before .before .before .before .well-made .ensures, c .before .before .before .before .before .before .if1 .left, c .before .before .before .before .if2 .left) (search asked depth 12) in
-    here ∙ number-later (a .s) (a .e) (a .seen) (c .before .before .before .before .before .before .before .before .before .before .pre .1)
+    here ∙ number-later (a .s) (a .e) (a .seen) _ (c .before .before .before .before .before .before .before .before .before .before .pre)
 
 returns-5 : tie.Need-returns-5
 returns-5 c =
     let a = c .before .before .before .before .before .before .before .before .before .before .before .before .args in
     let here : 7 ≡ later (a .s) (a .e) (a .seen) = rw (← c .before .before .before .before .before .before .before .wrong-call .ensures, ← c .before .before .before .before .before .before .before .before .before .well-made .ensures, c .before .before .before .before .before .before .before .before .if1 .left, c .before .before .before .before .before .before .if2 .left) (search asked depth 12) in
-    here ∙ number-later (a .s) (a .e) (a .seen) (c .before .before .before .before .before .before .before .before .before .before .before .before .pre .1)
+    here ∙ number-later (a .s) (a .e) (a .seen) _ (c .before .before .before .before .before .before .before .before .before .before .before .before .pre)
 
 returns-6 : tie.Need-returns-6
 returns-6 c =
     let a = c .before .before .before .before .before .before .before .before .before .before .before .before .args in
     let here : 0 ≡ later (a .s) (a .e) (a .seen) = rw (← c .before .before .before .before .before .before .before .wrong-call .ensures, ← c .before .before .before .before .before .before .before .before .before .well-made .ensures, c .before .before .before .before .before .before .before .before .if1 .left, c .before .before .before .before .before .before .if2 .left) (search asked depth 12) in
-    here ∙ number-later (a .s) (a .e) (a .seen) (c .before .before .before .before .before .before .before .before .before .before .before .before .pre .1)
+    here ∙ number-later (a .s) (a .e) (a .seen) _ (c .before .before .before .before .before .before .before .before .before .before .before .before .pre)
 
 pub number-spec : {M : Type 1} → statement M
 number-spec = tie.close (tie.spec (λ c κs. search needs) returns (λ c κs. search needs) (λ c κs. tt) returns-2 (λ c κs. search needs) returns-3 (λ c κs. search needs) returns-4 (λ c κs. search needs) returns-5 returns-6)

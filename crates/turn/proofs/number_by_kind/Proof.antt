@@ -1,36 +1,41 @@
--- Each arm by its kind; an event of no kind of the table is not well made. Assumes nothing.
+-- Each arm by its kind; an event of no kind is not well made. Assumes nothing.
 use borrow.Author.Needs.{needs}
-use borrow.Author.Tests.{ne-eqb}
-use Rattle.event.specs.WellMade.{wellMade}
+use Prim.Native.Nat.{ℕ, _<_}
+use mathlib.Core.Path.{_≡_, _∙_}
+use native.Mathlib.Omega.{arith}
+use borrow.Author.Tests.{lt-leb}
+use Rattle.ground.proofs.Walks.{and-false}
+use Rattle.turn.proofs.Sorts.{past-table, no-kind, no-row, far-kind}
+use Rattle.turn.proofs.Numbered.{number-far}
 use Rattle.turn.proofs.Turns.{number-ill}
 use Rattle.turn.proofs.number_by_kind.Statement.{statement}
 use Rattle.turn.proofs.number_by_kind.Tie as tie
 
--- no kind of the table: `rest` says, from its end, not 15, 14 and so on
+-- kinds 16 to 31: `rest` says, from its end, not 15, 14 and so on
 returns-16 : tie.Need-returns-16
-unfolding wellMade
 returns-16 c =
-    let a = c .before .args in
+    let a = c .before .before .before .before .args in
     let k = a .e .kind in
-    let n = c .match .rest in
-    number-ill (a .s) (a .e) (a .seen) (c .before .pre)
-    (simp (
-      ne-eqb k 1 (n .0 .0 .0 .0 .0 .0 .0 .0 .0 .0 .0 .0 .0 .0 .1),
-      ne-eqb k 2 (n .0 .0 .0 .0 .0 .0 .0 .0 .0 .0 .0 .0 .0 .1),
-      ne-eqb k 3 (n .0 .0 .0 .0 .0 .0 .0 .0 .0 .0 .0 .0 .1),
-      ne-eqb k 4 (n .0 .0 .0 .0 .0 .0 .0 .0 .0 .0 .0 .1),
-      ne-eqb k 5 (n .0 .0 .0 .0 .0 .0 .0 .0 .0 .0 .1),
-      ne-eqb k 6 (n .0 .0 .0 .0 .0 .0 .0 .0 .0 .1),
-      ne-eqb k 7 (n .0 .0 .0 .0 .0 .0 .0 .0 .1),
-      ne-eqb k 8 (n .0 .0 .0 .0 .0 .0 .0 .1),
-      ne-eqb k 9 (n .0 .0 .0 .0 .0 .0 .1),
-      ne-eqb k 10 (n .0 .0 .0 .0 .0 .1),
-      ne-eqb k 11 (n .0 .0 .0 .0 .1),
-      ne-eqb k 12 (n .0 .0 .0 .1),
-      ne-eqb k 13 (n .0 .0 .1),
-      ne-eqb k 14 (n .0 .1),
-      ne-eqb k 15 (n .1),
-    ))
+    let n = c .before .before .before .match .rest in
+    let low = past-table k (c .before .before .if1 .left) (n .0 .0 .0 .0 .0 .0 .0 .0 .0 .0 .0 .0 .0 .0 .1) (n .0 .0 .0 .0 .0 .0 .0 .0 .0 .0 .0 .0 .0 .1) (n .0 .0 .0 .0 .0 .0 .0 .0 .0 .0 .0 .0 .1) (n .0 .0 .0 .0 .0 .0 .0 .0 .0 .0 .0 .1) (n .0 .0 .0 .0 .0 .0 .0 .0 .0 .0 .1) (n .0 .0 .0 .0 .0 .0 .0 .0 .0 .1) (n .0 .0 .0 .0 .0 .0 .0 .0 .1) (n .0 .0 .0 .0 .0 .0 .0 .1) (n .0 .0 .0 .0 .0 .0 .1) (n .0 .0 .0 .0 .0 .1) (n .0 .0 .0 .0 .1) (n .0 .0 .0 .1) (n .0 .0 .1) (n .0 .1) (n .1) in
+    c .far-number .ensures ∙ number-far (a .s) (a .e) (a .seen) (c .before .before .before .before .pre) (far-kind (a .e) low (c .before .if2 .taken))
+
+-- beneath 1
+returns-17 : tie.Need-returns-17
+returns-17 c =
+    let a = c .before .before .args in
+    number-ill (a .s) (a .e) (a .seen) (c .before .before .pre) (no-kind (a .e) (none (a .e .kind) (c .if1 .taken)))
+  where
+    none : (k : ℕ) → k < 1 → k ≡ 0
+    none k h = omega (arith, h)
+
+-- past 31
+returns-18 : tie.Need-returns-18
+returns-18 c =
+    let a = c .before .before .before .args in
+    let k = a .e .kind in
+    let high = c .if2 .left in
+    number-ill (a .s) (a .e) (a .seen) (c .before .before .before .pre) (no-row (a .e) (simp (lt-leb k 31 (omega (arith, high)), and-false)) (omega (arith, high)))
 
 pub number-by-kind-spec : {M : Type 1} → statement M
 number-by-kind-spec =
@@ -39,6 +44,7 @@ number-by-kind-spec =
     (λ c κs. search needs) (λ c κs. search needs) (λ c κs. search needs) (λ c κs. search needs) (λ c κs. search needs)
     (λ c κs. search needs) (λ c κs. search needs) (λ c κs. search needs) (λ c κs. search needs) (λ c κs. search needs)
     (λ c κs. search needs) (λ c κs. search needs) (λ c κs. search needs) (λ c κs. search needs) (λ c κs. search needs)
+    (λ c κs. tt)
     (λ c. search needs) (λ c. search needs) (λ c. search needs) (λ c. search needs) (λ c. search needs) (λ c. search needs) (λ c. search needs) (λ c. search needs)
     (λ c. search needs) (λ c. search needs) (λ c. search needs) (λ c. search needs) (λ c. search needs) (λ c. search needs) (λ c. search needs)
-    returns-16)
+    returns-16 returns-17 returns-18)

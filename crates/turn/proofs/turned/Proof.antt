@@ -1,6 +1,6 @@
--- Refused, done with none due, or done on the record, by the number. Assumes nothing.
+-- Refused, done on what the station holds, or done on the record, by the number. Assumes nothing.
 use borrow.Author.Needs.{needs}
-use Rattle.turn.proofs.Turns.{turns-early, turns-refused, turns-none, turns-there}
+use Rattle.turn.proofs.Turns.{turns-early, turns-refused, turns-far, turns-there}
 use Rattle.turn.proofs.turned.Statement.{statement}
 use Rattle.turn.proofs.turned.Tie as tie
 
@@ -10,7 +10,7 @@ returns c = let a = c .before .before .before .args in turns-early (a .s) (a .e)
 returns-2 : tie.Need-returns-2
 returns-2 c =
     let a = c .before .before .before .before .before .before .before .args in
-    turns-none (a .s) (a .e) (a .seen) _ (c .before .before .before .number-by-kind .ensures) (c .before .before .if2 .taken) (c .if3 .taken)
+    turns-far (a .s) (a .e) (a .seen) _ (c .before .before .before .number-by-kind .ensures) (c .before .before .if2 .taken) (c .if3 .taken)
 
 returns-3 : tie.Need-returns-3
 returns-3 c =

@@ -3,7 +3,7 @@
 //! many wait, and the sentences that damage breaks.
 #![forbid(unsafe_code)]
 
-use model::{codes, lent, profile, random::Random, sound, step, ways};
+use model::{codes, lent, profile, random::Random, sound, station_sound, step, ways};
 use model::{Answer, Event, Record, Station};
 use std::collections::BTreeMap;
 
@@ -12,10 +12,10 @@ const CASES: usize = 100_000;
 const LENT_WALKS: u64 = 400;
 const LENT_EVENTS: usize = 100;
 
-/// Counts by answer number (rows) and kind (columns; 16 is any other).
+/// Counts by answer number (rows) and kind (columns; the first is any other).
 #[derive(Default)]
 struct Counts {
-    codes: [[u32; 17]; 9],
+    codes: [[u32; 32]; 10],
     shapes: BTreeMap<String, u32>,
     passed_over: u32,
     ways: ways::Ways,
@@ -23,12 +23,13 @@ struct Counts {
 
 impl Counts {
     fn add(&mut self, next: u16, event: &Event, answer: &Answer) {
-        let kind = usize::from(event.kind.min(16));
+        let kind = usize::from(event.kind) * usize::from(event.kind < 32);
         self.codes[usize::from(answer.code)][kind] += 1;
         if answer.code != 0 {
             return;
         }
-        if event.kind == codes::USER_DIVERTS && answer.identifier != Some(next) {
+        let draws = matches!(event.kind, codes::USER_DIVERTS | 16..=19);
+        if draws && answer.identifier != Some(next) {
             self.passed_over += 1;
         }
         let line = answer.to_string();
@@ -51,7 +52,7 @@ impl Counts {
     }
 
     fn print(&self, name: &str) {
-        println!("{name}: answer by kind 0 to 15 and other");
+        println!("{name}: answer by any other kind and 1 to 31");
         for (code, row) in self.codes.iter().enumerate() {
             let cells: String = row.iter().map(|count| format!("{count:>6}")).collect();
             println!("  {code} {cells}");
@@ -77,17 +78,17 @@ fn broken(table: &[Record], station: &Station) -> Vec<&'static str> {
         .collect();
     let others = [
         ("length_in_range", sound::length_in_range(table)),
-        ("limit_in_range", sound::limit_in_range(station)),
-        (
-            "next_identifier_not_zero",
-            sound::next_identifier_not_zero(station),
-        ),
         (
             "no_start_after_last_time",
             sound::no_start_after_last_time(table, station.last_time),
         ),
-        ("no_shared_identifier", sound::no_shared_identifier(table)),
+        (
+            "no_shared_identifier",
+            station_sound::no_shared_identifier(table, station),
+        ),
     ];
+    let of_station = station_sound::STATION_SENTENCES.iter();
+    names.extend(of_station.filter(|(_, holds)| !holds(station)).map(|s| s.0));
     names.extend(others.iter().filter(|other| !other.1).map(|other| other.0));
     names
 }

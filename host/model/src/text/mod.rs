@@ -17,6 +17,16 @@
 //! dli1 call K REASON [OPTION] to N at T
 //! message call K leg L MESSAGE [DLI3 [number N]] at T
 //! far-end call K at T
+//! activation request panel N TYPE to N at T
+//! deactivation request panel N TYPE at T
+//! interrogation request panel N TYPE at T
+//! check request panel N at T
+//! activation invoke panel N TYPE id J to N at T
+//! deactivation invoke panel N TYPE id J at T
+//! interrogation invoke panel N TYPE id J at T
+//! check invoke panel N id J at T
+//! SORT result id J [to N] at T
+//! SORT error id J at T
 //! raw HHHHHHHHHHHHHHHHHHHHHHHHHHHHHHHHHHHHHHHHHHHHHHHH
 //! cut HH...
 //! ```
@@ -27,10 +37,14 @@
 //! `with-number`; left out it is no notification. MESSAGE is `facility`,
 //! `alerting`, `connect` or `release-complete`; DLI3 is `dli3-allowed` or
 //! `dli3-forbidden`: `facility` needs one, `release-complete` has none.
+//! SORT is `activation`, `deactivation`, `interrogation` or `check`; the result
+//! of an interrogation needs its number, and no other has one. TYPE is `cfu`,
+//! `cfb` or `cfnr`, J 0 to 65535.
 //! `raw` holds the 48 hex digits of a record that is not well made, `cut` the
 //! 1 to 23 bytes of a cut last record; nothing may follow it.
 
 mod read;
+mod remote;
 mod words;
 mod write;
 

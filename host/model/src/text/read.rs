@@ -1,7 +1,7 @@
 //! Text to events.
 
 use super::words::Words;
-use super::{DLI3S, MESSAGES, SHORT};
+use super::{remote, DLI3S, MESSAGES, SHORT};
 use crate::codes::*;
 use crate::event::{Event, SIZE};
 
@@ -93,6 +93,7 @@ fn event(words: &mut Words) -> Result<Event, String> {
         "dli1" => dli1(words),
         "reroute" => reroute(words),
         "message" => message(words),
+        word if remote::SORT_WORDS.contains(&word) => remote::read(words),
         _ => short(words),
     }?;
     Ok(Event {
@@ -121,7 +122,7 @@ fn short(words: &mut Words) -> Result<Event, String> {
     match SHORT.iter().find(|row| words.next_is(row.1)) {
         None => words.expected(
             "open, alerted, answer, divert, result, error, leg-failed, clock, end, reroute, \
-             dli1, message, far-end, raw or cut",
+             dli1, message, far-end, activation, deactivation, interrogation, check, raw or cut",
         ),
         Some(&(kind, name, with_identifier)) => {
             let mut event = call(words, name, kind)?;

@@ -1,6 +1,6 @@
 //! Events to text.
 
-use super::{DLI3S, MESSAGES, OPTIONS, REASONS, SHORT};
+use super::{remote, DLI3S, MESSAGES, OPTIONS, REASONS, SHORT};
 use crate::codes::*;
 use crate::event::Event;
 use crate::panel;
@@ -59,6 +59,7 @@ fn body(event: &Event) -> String {
         REROUTE => reroute(event),
         DLI1 => format!("dli1 call {call}{}", reason_option_to(event)),
         MESSAGE => message(event),
+        ACTIVATION_REQUEST..=CHECK_ERROR => remote::write(event),
         _ => short(event),
     }
 }

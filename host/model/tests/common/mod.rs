@@ -20,7 +20,7 @@ impl Panel {
     pub fn of(records: usize, limit: u8) -> Panel {
         Panel {
             table: vec![Record::default(); records],
-            station: Station::fresh(limit).expect("a limit from 1 to 15"),
+            station: Station::fresh(limit, 1, 1).expect("a limit from 1 to 15"),
         }
     }
 

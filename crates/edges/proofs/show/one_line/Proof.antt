@@ -9,7 +9,9 @@ play-requires : tie.Need-play-requires
 play-requires c κs = (sym (c .before .before .before .before .sound-board .ensures) ∙ c .before .before .before .if1 .taken, omega arith)
 
 returns : tie.Need-returns
-returns c = let p = c .before .before .before .play in omega (arith, written-within (p .ensures .text) (p .kept .1 .1 .1 .0))
+returns c =
+    let p = c .before .before .before .play in
+    omega (arith, written-within (p .ensures .text) (p .kept .1 .1 .1 .0), c .before .before .before .before .before .before .before .before .before .before .pre .1)
 
 pub one-line-spec : {M : Type 1} → statement M
 one-line-spec =

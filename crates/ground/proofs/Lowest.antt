@@ -71,6 +71,14 @@ module _ {A : Type 0} (p : A → Bool) (d : A) where
       go false q e (suc i) ih = ih e i
 
 module _ {A : Type 0} (p : A → Bool) where
+  -- the lowest is a place of the list or its length
+  pub lowest-small : (l : List A) → first p l ≤ length l
+  unfolding first
+  lowest-small [] = zero-le
+  lowest-small (x ∷ xs) =
+      let l = lowest-small xs in
+      elim (p x) as (λ b. (when b then 0 else suc (first p xs)) ≤ suc (length xs)) [ true ↦ omega arith | false ↦ omega arith ]
+
   pub count-length : (l : List A) → count p l ≤ length l
   unfolding count
   count-length [] = zero-le
@@ -88,3 +96,25 @@ module _ {A : Type 0} (p : A → Bool) where
           → count p (set (x ∷ xs) (when b then 0 else suc (first p xs)) y) ≡ (when b then suc (count p xs) else count p xs) - 1
       go true q ih = rw (is-false (p y) n) (omega arith)
       go false q ih = rw q ih
+
+  -- where the lowest is past the end, none passes
+  pub count-past : (l : List A) → length l ≤ first p l → count p l ≡ 0
+  unfolding count first
+  count-past [] h = refl
+  count-past (x ∷ xs) h = go (p x) refl h (count-past xs)
+    where
+      go : (b : Bool) → p x ≡ b → suc (length xs) ≤ (when b then 0 else suc (first p xs)) → (length xs ≤ first p xs → count p xs ≡ 0)
+          → (when b then suc (count p xs) else count p xs) ≡ 0
+      go true q h ih = absurd (not-suc-le-zero h)
+      go false q h ih = ih (le-of-suc-le-suc h)
+
+  -- and where it isn't, one does
+  pub count-some : (l : List A) → first p l < length l → 0 < count p l
+  unfolding count first
+  count-some [] h = absurd (not-suc-le-zero h)
+  count-some (x ∷ xs) h = go (p x) refl h (count-some xs)
+    where
+      go : (b : Bool) → p x ≡ b → (when b then 0 else suc (first p xs)) < suc (length xs) → (first p xs < length xs → 0 < count p xs)
+          → 0 < (when b then suc (count p xs) else count p xs)
+      go true q h ih = omega arith
+      go false q h ih = ih (le-of-suc-le-suc h)

@@ -1,0 +1,5 @@
+use Rattle.follow.proofs.over.Statement.{statement}
+use Rattle.follow.proofs.over.Tie as tie
+
+pub over-spec : {M : Type 1} → statement M
+over-spec = tie.close (tie.spec (λ c κs. tt) (λ c κs. tt) (λ c κs. tt) (λ c. cc))

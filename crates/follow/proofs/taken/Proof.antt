@@ -1,0 +1,5 @@
+use Rattle.follow.proofs.taken.Statement.{statement}
+use Rattle.follow.proofs.taken.Tie as tie
+
+pub taken-spec : {M : Type 1} → statement M
+taken-spec = tie.close (tie.spec (λ c κs. tt) (λ c κs. tt) (λ c. cc))
