@@ -17,23 +17,36 @@
 /* Why an event is refused, and what to do. More codes may come, of later archives
  * of the same layout: every code but WHIPSAIL_DONE is a refusal and has changed
  * nothing, so drop the event of one that you do not know, and report its number. They
- * are tested in this order; kinds 16 to 31, which name no call, never get 4, 7 or 8. */
+ * are tested in this order; kinds 16 to 31, which name no call, never get 4, 10, 7 or 8.
+ *
+ * Earlier archives had one code, WHIPSAIL_NOT_IN_STATE = 5, where 10 and 11 stand: it
+ * was split, and 5 is no longer given. Its name is gone, so that a host which has it does
+ * not compile: name 10 and 11 in its place, and where they need not be told apart, do for
+ * both what was done for 5. A bare 5 still compiles, but no answer meets it: look for it. */
 enum {
     WHIPSAIL_DONE = 0,
-    WHIPSAIL_NOT_SOUND = 1,        /* the table is empty, too long or not sound, or the station is not (whipsail_station
-                                      says when): lend both as they were left, or start again with zeroed records and a
-                                      fresh station */
-    WHIPSAIL_TIME_BEFORE = 2,      /* its time is before that of the last done event: keep to the order of times */
-    WHIPSAIL_NOT_WELL_MADE = 3,    /* its kind or a field (or a limit, mark, plan or start): correct what makes it */
-    WHIPSAIL_NO_SUCH_CALL = 4,     /* past the table's end, free, or of the other direction: look up the record */
-    WHIPSAIL_NOT_IN_STATE = 5,     /* the call's state does not take it, as a result with no request open; of kinds 24
-                                      to 31: none of its sort is pending: drop it */
-    WHIPSAIL_OTHER_IDENTIFIER = 6, /* a result or error, and the open request, of kinds 24 to 31 the pending one of its
-                                      sort, has another identifier: drop it */
-    WHIPSAIL_OVER_LIMIT = 7,       /* one diversion more than the limit: let the call ring, or end it */
-    WHIPSAIL_TABLE_FULL = 8,       /* an open, and no record is free: turn the call down */
-    WHIPSAIL_ALREADY_ASKED = 9     /* kinds 16 to 19: one of the same sort is pending: wait for its answer, or for the
-                                      clock event that ends it */
+    WHIPSAIL_NOT_SOUND = 1,             /* the table is empty, too long or not sound, or the station is not
+                                           (whipsail_station says when): lend both as they were left, or start again
+                                           with zeroed records and a fresh station */
+    WHIPSAIL_TIME_BEFORE = 2,           /* its time is before that of the last done event: keep to the order of times */
+    WHIPSAIL_NOT_WELL_MADE = 3,         /* its kind or a field (or a limit, mark, plan, start): correct what makes it */
+    WHIPSAIL_NO_SUCH_CALL = 4,          /* past the table's end, free, or of the other direction: look up the record */
+    WHIPSAIL_NOT_IN_BASIC_STATE = 10,   /* too early or too late: no call in this basic state (`basic` of the record)
+                                           takes it, however its diversion stands. So ALERTED once it rings, LEG_FAILED
+                                           before that, RESULT once it is answered, DIVERT for the reason of another
+                                           state; FACILITY on leg 2 in every state. Drop it */
+    WHIPSAIL_NOT_IN_SERVICE_STATE = 11, /* the basic state takes it, the call's diversion does not: DIVERT while a
+                                           request is open or granted (already asked, already granted), ALERTED and
+                                           ANSWERED while that is CFU or CFB (the call is being diverted away); RESULT
+                                           and ERROR with no request open, LEG_FAILED with no CFNR granted; leg 2 where
+                                           there is none; FACILITY before any DLI1; of kinds 24 to 31: none of its sort
+                                           is pending. Drop it; what an open request forbids may be taken after it */
+    WHIPSAIL_OTHER_IDENTIFIER = 6,      /* a result or error, and the open request, of kinds 24 to 31 the pending one of
+                                           its sort, has another identifier: drop it */
+    WHIPSAIL_OVER_LIMIT = 7,            /* one diversion more than the limit: let the call ring, or end it */
+    WHIPSAIL_TABLE_FULL = 8,            /* an open, and no record is free: turn the call down */
+    WHIPSAIL_ALREADY_ASKED = 9          /* kinds 16 to 19: one of the same sort is pending: wait for its answer, or for
+                                           the clock event that ends it */
 };
 
 /* Which connection is which leg. An incoming call has leg 1 alone. Of an outgoing
@@ -70,7 +83,8 @@ enum {
  * 15 do (whipsail_waits). "SETUP is 1": R1 and X1 go on the connection that was leg 1,
  * and that of the SETUP is leg 1; after X2 "SETUP is 2" says the same of leg 2, while
  * leg 1 rings on. "none": the record is free. All else is refused, FACILITY also where
- * `cdo` is Idle.
+ * `cdo` is Idle: with 11 that FACILITY, on leg 1 before Active, and all but FACILITY on
+ * leg 2 in Delivered; with 10 what is left.
  *
  * On an incoming call ALERTED sends A1, ANSWERED C1 (where `cdf` is Wait: D1), DIVERT
  * I1 and END X1; all other events, and the opens, send nothing. */

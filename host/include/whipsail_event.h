@@ -9,14 +9,14 @@
  * archive that does not know one refuses it with 3. Kinds 16 to 31 set forwards from
  * another panel; they stand below.
  *
- * DIVERT: CFU and CFB before ALERTED, CFNR after it, and no request open or
- * granted. A request that nobody answers for 10,000 ms (T1) ends at the next CLOCK,
- * one for each; the call then stands as before: let it ring, or divert again.
+ * DIVERT: CFU and CFB before ALERTED, CFNR after it (else 10), and no request open or
+ * granted (else 11). A request that nobody answers for 10,000 ms (T1) ends at the next
+ * CLOCK, one for each; the call then stands as before: let it ring, or divert again.
  * RESULT sends nothing: the record stays, granted, until FAR_END (the far end's
  * RELEASE COMPLETE) or END, and with CFNR until ANSWERED or LEG_FAILED; a host
  * that may wait for these in vain keeps a timer. ALERTED and ANSWERED are refused
- * while CFU or CFB is open or granted. END and FAR_END free an incoming record, END
- * and RECEIVED with RELEASE on leg 1, where there is no leg 2, an outgoing one; its
+ * with 11 while CFU or CFB is open or granted. END and FAR_END free an incoming record,
+ * END and RECEIVED with RELEASE on leg 1, where there is no leg 2, an outgoing one; its
  * place is used again. */
 enum {
     WHIPSAIL_OPEN_OUTGOING = 1, /* first: party; the host has sent the SETUP, and its connection is leg 1 */
@@ -62,7 +62,7 @@ enum {
  * diversion to us is allowed, else the error. What is kept diverts no call by itself:
  * the host looks at it (whipsail_kept), and diverts by DIVERT.
  *
- * 24 to 31: an answer to ours; none pending of its sort is refused with 5, another
+ * 24 to 31: an answer to ours; none pending of its sort is refused with 11, another
  * identifier, 0 too, with 6. Done, it ends the request, sends nothing, and its answer
  * is empty: what became of the request is in the event, and is the host's to tell its
  * user. The destination of 26 is for the host alone; the engine keeps and shows none.

@@ -6,7 +6,8 @@
 
 #include "whipsail.h"
 
-/* Why an event is refused, and what to do: of whipsail_answer.code. */
+/* Why an event is refused, and what to do: of whipsail_answer.code. 5, which was split
+ * into 10 and 11, is one that is not known. */
 static inline const char *whipsail_refusal_text(unsigned code) {
     switch (code) {
     case WHIPSAIL_DONE:
@@ -21,9 +22,13 @@ static inline const char *whipsail_refusal_text(unsigned code) {
                "256 panels, with start and destinations among them): correct what makes it";
     case WHIPSAIL_NO_SUCH_CALL:
         return "no such call: past the table's end, free, or of the other direction; look up which record is meant";
-    case WHIPSAIL_NOT_IN_STATE:
-        return "the call's state does not take this event, or no request of this sort is pending: look at the record "
-               "or the station, and drop the event";
+    case WHIPSAIL_NOT_IN_BASIC_STATE:
+        return "too early or too late: no call in this state (not yet ringing, ringing or answered) takes this event, "
+               "and none ever a FACILITY on leg 2: look at the record, and drop the event";
+    case WHIPSAIL_NOT_IN_SERVICE_STATE:
+        return "the call's state fits, but its diversion (already asked, already granted, being diverted away, no "
+               "request open or granted, no forwarded leg, no diversion told yet) does not, or no request of this sort "
+               "is pending: look at the record or the station, and drop the event";
     case WHIPSAIL_OTHER_IDENTIFIER:
         return "not the identifier of the call's open request, or of the pending one of this sort: drop this late or "
                "foreign answer";
@@ -34,7 +39,8 @@ static inline const char *whipsail_refusal_text(unsigned code) {
     case WHIPSAIL_ALREADY_ASKED:
         return "a request of this sort is pending: wait for its answer, or for the clock event that ends it";
     default:
-        return "a refusal of a later archive, not known here: nothing has changed; drop the event, and report the number";
+        return "a refusal of another archive, not known here: nothing has changed; drop the event, and report the "
+               "number";
     }
 }
 

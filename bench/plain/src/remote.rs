@@ -151,7 +151,7 @@ impl Remote {
     pub fn settled(&mut self, e: &Event) -> Answer {
         let p = &mut self.pending[sort(e)];
         if p.wait == 0 {
-            return Answer::refused(5);
+            return Answer::refused(11);
         }
         if p.identifier != e.identifier {
             return Answer::refused(6);

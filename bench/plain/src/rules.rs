@@ -22,8 +22,11 @@ impl Call {
 
     #[inline(always)]
     pub fn alerted(&mut self, e: &Event) -> Answer {
-        if self.basic != PROCEEDING || self.leaving() {
-            return Answer::refused(5);
+        if self.basic != PROCEEDING {
+            return Answer::refused(10);
+        }
+        if self.leaving() {
+            return Answer::refused(11);
         }
         self.basic = RINGING;
         Answer::sending(e.call, bare(b'A', 1))
@@ -31,8 +34,11 @@ impl Call {
 
     #[inline(always)]
     pub fn answered(&mut self, e: &Event) -> Answer {
-        if self.basic == ACTIVE || self.leaving() {
-            return Answer::refused(5);
+        if self.basic == ACTIVE {
+            return Answer::refused(10);
+        }
+        if self.leaving() {
+            return Answer::refused(11);
         }
         self.end_request();
         self.basic = ACTIVE;
@@ -52,8 +58,11 @@ impl Call {
     /// its reason, or the number of the refusal.
     #[inline(always)]
     fn settled_by(&mut self, e: &Event) -> Result<u8, u8> {
+        if self.basic == ACTIVE {
+            return Err(10);
+        }
         if self.cds == 0 {
-            return Err(5);
+            return Err(11);
         }
         if self.identifier != e.identifier {
             return Err(6);
@@ -85,8 +94,11 @@ impl Call {
 
     #[inline(always)]
     pub fn leg_failed(&mut self, e: &Event) -> Answer {
+        if self.basic != RINGING {
+            return Answer::refused(10);
+        }
         if self.granted == 0 || self.reason != CFNR {
-            return Answer::refused(5);
+            return Answer::refused(11);
         }
         self.end_request();
         Answer::done(e.call)
@@ -112,7 +124,7 @@ impl Call {
     #[inline(always)]
     pub fn informed(&mut self, e: &Event) -> Answer {
         if self.basic == ACTIVE {
-            return Answer::refused(5);
+            return Answer::refused(10);
         }
         Answer {
             notice: self.dli1(waiting(e)),
@@ -124,7 +136,7 @@ impl Call {
     pub fn rerouted(&mut self, e: &Event) -> Answer {
         let no_reply = e.reason == CFNR;
         let not_taken = match (self.cdr, e.leg) {
-            (0, 2) => return Answer::refused(5),
+            (0, 2) => return Answer::refused(if self.basic == RINGING { 11 } else { 10 }),
             (0, _) => self.basic == ACTIVE || (no_reply && self.basic != RINGING),
             (_, leg) => leg == 1 || no_reply || usize::from(self.count) >= LATER,
         };
@@ -236,11 +248,13 @@ impl Call {
     #[inline(always)]
     pub fn message(&mut self, e: &Event) -> Answer {
         let invoked = self.cdr == 1;
-        if (e.leg == 2 && !invoked)
-            || (e.message == 1 && (e.leg == 2 || self.cdo == 0))
-            || (self.basic == ACTIVE && e.message != 4)
+        if e.leg == 2 && (e.message == 1 || self.basic != RINGING)
+            || e.leg == 1 && self.basic == ACTIVE && e.message != 4
         {
-            return Answer::refused(5);
+            return Answer::refused(10);
+        }
+        if (e.leg == 2 && !invoked) || (e.message == 1 && self.cdo == 0) {
+            return Answer::refused(11);
         }
         let mut answer = Answer::done(e.call);
         if e.message == 4 {

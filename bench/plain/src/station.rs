@@ -68,8 +68,11 @@ impl Station {
         } else {
             PROCEEDING
         };
-        if c.basic != fits || c.cds == 1 || c.granted == 1 {
-            return Answer::refused(5);
+        if c.basic != fits {
+            return Answer::refused(10);
+        }
+        if c.cds == 1 || c.granted == 1 {
+            return Answer::refused(11);
         }
         if c.counter >= self.limit {
             return Answer::refused(7);

@@ -6,13 +6,13 @@ use mathlib.Core.Bool.{Bool, false, not, _&&_, _||_}
 use lib.Dec.{T, eqb, leb, leb→le, le→leb, T-not, not-T}
 use Rattle.ground.proofs.Bools.{and-l, and-r, and-i, nor-l, nor-r, not-not, when-has, trivial}
 use Rattle.event.specs.declared.Event.{Event}
-use Rattle.event.specs.Kinds.{ofIncoming, ofOutgoing, diverts, ends, facility, releaseComplete, onLeg2}
+use Rattle.event.specs.Kinds.{ofIncoming, ofOutgoing, diverts, ends, releaseComplete, onLeg2}
 use Rattle.event.specs.WellMade.{callMade}
 use Rattle.call.specs.declared.Call.{Call}
 use Rattle.call.specs.declared.Effect.{Effect}
-use Rattle.call.specs.Record.{isFree, isOutgoing, isIncoming, proceeding, active, requested, granted, divert, invoked, fits, freeCall}
+use Rattle.call.specs.Record.{isOutgoing, isIncoming, proceeding, active, requested, granted, divert, invoked, fits, freeCall}
 use Rattle.call.specs.Soundness.{startHolds, soundCall}
-use Rattle.call.specs.State.{leaving, stateForbids}
+use Rattle.call.specs.State.{leaving, addressed, messageForbids, stateForbids}
 use Rattle.call.specs.Incoming.{idle, actIncoming}
 use Rattle.call.specs.Outgoing.{messaged, actOutgoing}
 use Rattle.call.specs.Act.{ended, act}
@@ -36,10 +36,6 @@ sound-later last time c l h = go (sound-view last c h)
     go (free e) = rw e (free-sound time)
     go (outgoing w) = outgoing-sound time w
     go (incoming w) = incoming-sound (later time l w)
-
--- the call is neither free nor of the other direction: "(4 to 9, 15 incoming; 12 to 14 outgoing; 11 either)"
-abbrev pub addressed : Call → Event → Bool
-addressed c e = not ((ofIncoming e && not (isIncoming c)) || (ofOutgoing e && not (isOutgoing c)) || (ends e && isFree c))
 
 pub to-incoming : (c : Call) (e : Event) → T (addressed c e) → T (ofIncoming e) → T (isIncoming c)
 to-incoming c e a t =
@@ -102,8 +98,7 @@ module _ (identifier : ℕ) (c : Call) (e : Event) (h : T (soundCall (e .time) c
   unfolding stateForbids
   messaged-left diverting k =
       let w = as-outgoing (rw k tt) in
-      let m : T (not (((facility e && onLeg2 e) || (active c && not (releaseComplete e)))
-      || ((onLeg2 e && not (invoked c)) || (facility e && not (divert c))))) = rw k at n in
+      let m : T (not (messageForbids c e)) = rw k at n in
       let p : T (not (active c && not (releaseComplete e))) = search (nor-l, nor-r) depth 8 in
       let q : T (not (onLeg2 e && not (invoked c))) = search (nor-l, nor-r) depth 8 in
       when-has (Leaves (e .time) identifier diverting) (releaseComplete e)
@@ -128,8 +123,9 @@ module _ (identifier : ℕ) (c : Call) (e : Event) (h : T (soundCall (e .time) c
   left (answers k f) = let r = inc.answered-kept e (as-incoming (rw k tt)) in rw k (left-incoming (r .sound) (r .unasked))
   left (divertsCall k f) =
       let m = rw k at n in
-      let p : T (not (not (fits (e .reason) c))) = search nor-l depth 8 in
-      let q : T (not (requested c || granted c)) = search (nor-l, nor-r) depth 8 in
+      let x : T (not (not (fits (e .reason) c) || (requested c || granted c))) = search nor-l depth 8 in
+      let p : T (not (not (fits (e .reason) c))) = search nor-l in
+      let q : T (not (requested c || granted c)) = search nor-r in
       let l : T (leb (e .reason) 3) = search (and-l, and-r) depth 12 in
       rw k
       (record {

@@ -20,7 +20,7 @@ use Rattle.call.specs.Incoming.{openedIncoming, alerted, idle, answered,
 use Rattle.call.proofs.Denials.{denied-l, never}
 use Rattle.call.proofs.Sound.{Incoming}
 
-from-zero : (n : ℕ) → T (leb 0 n)
+pub from-zero : (n : ℕ) → T (leb 0 n)
 from-zero n = le→leb 0 n (omega arith)
 
 to-itself : (n : ℕ) → T (leb n n)

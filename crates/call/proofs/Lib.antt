@@ -4,6 +4,8 @@ pub mod Made
 pub mod KeptIncoming
 pub mod KeptOutgoing
 pub mod Kept
+pub mod State
+pub mod Takers
 pub mod Requests
 pub mod Stricter
 pub mod AsStrict

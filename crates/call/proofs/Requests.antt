@@ -10,19 +10,22 @@ use Rattle.event.specs.declared.Event.{Event}
 use Rattle.event.specs.Kinds.{opens, diverts, answersRequest, clock, ends}
 use Rattle.event.specs.WellMade.{callMade}
 use Rattle.call.specs.declared.Call.{Call}
-use Rattle.call.specs.Record.{isFree, isOutgoing, requested, granted}
+use Rattle.call.specs.Record.{isFree, isOutgoing, requested, granted, fits}
 use Rattle.ground.specs.Choice.{only}
 use Rattle.call.specs.Soundness.{soundCall}
-use Rattle.call.specs.State.{grantedCfnr, stateForbids}
+use Rattle.call.specs.State.{grantedCfnr, addressed, stateForbids}
 use Rattle.call.specs.Act.{act}
 use Rattle.call.proofs.Sound.{Incoming, requested-incoming}
 use Rattle.call.proofs.Made.{Made, opensOutgoing, opensIncoming, opensDiverted, alerts, answers, divertsCall, results, rejects, legFails, clocks, endsOwn, invokes, informs, messages, farEnds, made}
-use Rattle.call.proofs.Kept.{addressed, to-outgoing, alerts-unheld, act-request}
+use Rattle.call.proofs.Kept.{to-outgoing, alerts-unheld, act-request}
 
 -- "6: .. CDS Idle": a divert that is taken finds no open request
 pub divert-idle : (c : Call) (e : Event) → T (diverts e) → T (not (stateForbids c e)) → T (not (requested c))
 unfolding stateForbids
-divert-idle c e d n = let m = rw (eqb→eq (e .kind) 6 d) at n in search (nor-l, nor-r) depth 8
+divert-idle c e d n =
+    let m = rw (eqb→eq (e .kind) 6 d) at n in
+    let x : T (not (not (fits (e .reason) c) || (requested c || granted c))) = search nor-l depth 8 in
+    search (nor-l, nor-r) depth 8
 
 -- its result, its error or reject, its expiry, an answer of the call or the end of the call
 abbrev pub endsRequest : Event → Bool

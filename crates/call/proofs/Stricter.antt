@@ -25,7 +25,7 @@ use Rattle.call.specs.declared.Call.{Call}
 use Rattle.call.specs.declared.Sent.{Sent}
 use Rattle.call.specs.declared.Effect.{Effect}
 use Rattle.call.specs.Record.{isFree, divert, invoked, freeCall}
-use Rattle.call.specs.State.{stateForbids}
+use Rattle.call.specs.State.{basicForbids, stateForbids}
 use Rattle.call.specs.Fields.{basic-is}
 use Rattle.call.specs.Incoming.{due, expired, actIncoming}
 use Rattle.call.specs.Outgoing.{dli1Of, turnsDown, redirected, forwarded, forwardedOn, rerouted, informed, handOver, cdrIdle, movedOver, withDli3, numberFor, afterMessage, takenOver, onFirstLeg, leg2Remains, messaged, actOutgoing}
@@ -264,6 +264,10 @@ act-rel {e = e} identifier p q t = act-framed identifier p (framed-of q) (incomi
 pub forbids-same : {c c' : Call} {e e' : Event} → StricterCall c c' → Framed e e' → stateForbids c' e' ≡ stateForbids c e
 unfolding stateForbids
 forbids-same (stricter c w h p q) (framed e option flag) = refl
+
+pub basic-same : {c c' : Call} {e e' : Event} → StricterCall c c' → Framed e e' → basicForbids c' e' ≡ basicForbids c e
+unfolding basicForbids
+basic-same (stricter c w h p q) (framed e option flag) = refl
 
 pub free-same : (c c' : Call) → StricterCall c c' → isFree c' ≡ isFree c
 free-same c c' (stricter d w h p q) = refl

@@ -24,17 +24,17 @@ use Rattle.call.specs.declared.Sent.{Sent}
 use Rattle.call.specs.declared.Effect.{Effect}
 use Rattle.call.specs.Record.{isFree, active, delivered, divert, invoked, wait, freeCall}
 use Rattle.call.specs.Soundness.{soundCall}
-use Rattle.call.specs.State.{stateForbids}
+use Rattle.call.specs.State.{addressed, messageForbids, stateForbids}
 use Rattle.call.specs.Incoming.{actIncoming}
 use Rattle.call.specs.Outgoing.{dli1Of, turnsDown, rerouted, cdrIdle, movedOver, withDli3, afterMessage, takenOver, onFirstLeg, messaged, actOutgoing}
 use Rattle.call.specs.Act.{act}
 use Rattle.call.specs.Told.{dli3Of, latestFirst, carriesOver, waitingOf, messageTells, tells, Remembers, Learns, TellsOf}
-use Rattle.call.proofs.Denials.{denied}
+use Rattle.call.proofs.Denials.{denied, denied-first}
 use Rattle.call.proofs.Sound.{Outgoing, outgoing-of, free-of}
 use Rattle.call.proofs.Made.{Made, opensOutgoing, opensIncoming, opensDiverted, alerts, answers, divertsCall, results, rejects, legFails, clocks, endsOwn, invokes, informs, messages, farEnds, made}
-use Rattle.call.proofs.Kept.{addressed, to-outgoing, act-kept}
+use Rattle.call.proofs.Kept.{to-outgoing, act-kept}
 use Rattle.call.proofs.Heard.{Heard, Ranged, none-told, learns-none, diverted-seen, heard-dli1, Flagged, flagged, heard-message, heard-waits, heard-both}
-use Rattle.call.proofs.Waits.{denied-first, alerts-or-connects, act-waits, act-goes}
+use Rattle.call.proofs.Waits.{alerts-or-connects, act-waits, act-goes}
 
 -- what an event does that told `new`; an open and a freed record end the list
 record Hears (l new : List Told) (opening : Bool) (x : Effect) : Type 0 where
@@ -179,8 +179,7 @@ module _ (last identifier : ℕ) (l : List Told) (c : Call) (e : Event) (h : T (
       let x = heard-dli1 m (dli1Of e) d in
       rw k (record { learns = x .learns; kept = λ _. x .remembers })
   hears (messages k f) =
-      let u : T (not (((facility e && onLeg2 e) || (active c && not (releaseComplete e)))
-      || ((onLeg2 e && not (invoked c)) || (facility e && not (divert c))))) = rw k at n in
+      let u : T (not (messageForbids c e)) = rw k at n in
       rw k (messaged-hears c e m (as-outgoing (rw k tt)) f (search (nor-l, nor-r) depth 8) (search (nor-l, nor-r) depth 8))
   hears (farEnds k f) = rw k (freed)
 

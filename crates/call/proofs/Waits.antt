@@ -1,19 +1,18 @@
 -- What waits with leg 2 is what was accepted since Invoked began, in order, by the events alone; what is sent goes by it. Assumes nothing.
 use Prim.Native.Nat.{ℕ, zero, suc}
-use mathlib.Core.Path.{_≡_, refl, sym, ap, _∙_}
-use mathlib.Core.Bool.{Bool, true, false, not, _&&_, _||_}
+use mathlib.Core.Path.{_≡_, refl, ap, _∙_}
+use mathlib.Core.Bool.{true, false, not, _&&_, _||_}
 use mathlib.Core.List.{List, [], _∷_, _++_}
 use native.Mathlib.Omega.{arith}
-use lib.Dec.{T, eqb, leb, ltb, eqb→eq, leb→le, T-not}
-use lib.ListN.{length}
+use lib.Dec.{T, eqb, leb, eqb→eq, leb→le}
 use borrow.Author.Tests.{eqb-true}
 use Rattle.ground.specs.Choice.{when_then_else_}
-use Rattle.ground.proofs.Bools.{and-l, and-r, and-i, nor-l, nor-r, is-true, is-false, by-cases, from-true, from-false, when-has}
+use Rattle.ground.proofs.Bools.{and-l, and-r, nor-l, nor-r, is-true, is-false, by-cases, from-true, when-has}
 use Rattle.ground.proofs.Walks.{and-false}
 use Rattle.event.specs.declared.Event.{Event}
 use Rattle.event.specs.Kinds.{cfu, cfb, cfnr, facility, alerting, connect, releaseComplete, onLeg2, ofOutgoing}
 use Rattle.notice.specs.declared.Dli1.{Dli1}
-use Rattle.waits.specs.Waits.{noDli1, dli1s, room, mostWait, lastAfter}
+use Rattle.waits.specs.Waits.{noDli1, room, lastAfter}
 use Rattle.waits.specs.Soundness.{waitsHold}
 use Rattle.waits.proofs.Laws.{appends}
 use Rattle.waits.proofs.Counted.{room-below}
@@ -23,15 +22,15 @@ use Rattle.call.specs.declared.Sent.{Sent}
 use Rattle.call.specs.declared.Effect.{Effect}
 use Rattle.call.specs.Record.{active, delivered, divert, invoked, wait, forwardedParty}
 use Rattle.call.specs.Soundness.{soundCall}
-use Rattle.call.specs.State.{stateForbids}
+use Rattle.call.specs.State.{addressed, messageForbids, stateForbids}
 use Rattle.call.specs.Incoming.{actIncoming}
 use Rattle.call.specs.Outgoing.{goesOn, turnsDown, dli1Of, rerouted, cdrIdle, movedOver, withDli3, afterMessage, messaged, actOutgoing}
 use Rattle.call.specs.Act.{act}
 use Rattle.call.specs.Told.{waitingOf, joins, acceptedAfter, handsOver, GoesBy}
-use Rattle.call.proofs.Denials.{denied}
+use Rattle.call.proofs.Denials.{denied, denied-first}
 use Rattle.call.proofs.Sound.{Outgoing, outgoing-of}
-use Rattle.call.proofs.Kept.{addressed, to-outgoing}
-use Rattle.call.proofs.Made.{Made, opensOutgoing, opensIncoming, opensDiverted, alerts, answers, divertsCall, results, rejects, legFails, clocks, endsOwn, invokes, informs, messages, farEnds, made}
+use Rattle.call.proofs.Kept.{to-outgoing}
+use Rattle.call.proofs.Made.{Made, opensOutgoing, opensIncoming, opensDiverted, alerts, answers, divertsCall, results, rejects, legFails, clocks, endsOwn, invokes, informs, messages, farEnds}
 
 -- an effect that leaves what waits, and one that ends it
 abbrev Stays : Call → Call → Type 0
@@ -47,11 +46,6 @@ message-has P e d p =
 
 dli3-has : (P : List Dli1 → Type 0) (e : Event) (d : Call) → P (waitingOf d) → P (waitingOf (withDli3 d e))
 dli3-has P e d p = when-has (λ (x : Call). P (waitingOf x)) (divert d) (λ _. p) (λ _. p)
-
--- what the denial of a conjunction tells of the first
-pub denied-first : (a b : Bool) → T (not (a && b)) → T b → T (not a)
-denied-first true b n t = absurd (T-not b n t)
-denied-first false b n t = tt
 
 -- "message 1 FACILITY, 2 ALERTING, 3 CONNECT, 4 RELEASE COMPLETE": what is neither the first nor the last
 pub alerts-or-connects : (m : ℕ) → T (leb 1 m) → T (leb m 4) → T (not (eqb m 1)) → T (not (eqb m 4)) → eqb m 2 || eqb m 3 ≡ true
@@ -217,8 +211,7 @@ module _ (last identifier : ℕ) (c : Call) (e : Event) (h : T (soundCall last c
   waits (invokes k f) = rw k (rw k at (rerouted-waits c e (outgoing-here (rw k tt)) k))
   waits (informs k f) = rw k refl
   waits (messages k f) =
-      let u : T (not (((facility e && onLeg2 e) || (active c && not (releaseComplete e)))
-      || ((onLeg2 e && not (invoked c)) || (facility e && not (divert c))))) = rw k at n in
+      let u : T (not (messageForbids c e)) = rw k at n in
       let q : T (not (onLeg2 e && not (invoked c))) = search (nor-l, nor-r) depth 8 in
       let low : T (leb 1 (e .message)) = search (and-l, and-r) depth 16 in
       let high : T (leb (e .message) 4) = search (and-l, and-r) depth 16 in

@@ -7,10 +7,10 @@ use Rattle.event.specs.Kinds.{AskActivation, AskCheck, ActivationResult, CheckE
 use Rattle.timed.specs.declared.Pending.{Pending}
 use Rattle.timed.specs.Timed.{waits}
 
--- "a result or error with none pending is 5, with another identifier 6"; "16 to 19 with one of the same sort pending is 9"
+-- "a result or error with none pending is 5", after Eight 11, "with another identifier 6"; "16 to 19 with one of the same sort pending is 9"
 abbrev pub numberOf : Pending → ℕ → ℕ → ℕ
 numberOf p kind identifier =
-    when (leb ActivationResult kind && leb kind CheckError) && not (waits p) then 5 else
+    when (leb ActivationResult kind && leb kind CheckError) && not (waits p) then 11 else
     when (leb ActivationResult kind && leb kind CheckError) && not (eqb identifier (p .identifier)) then 6 else
     when (leb AskActivation kind && leb kind AskCheck) && waits p then 9 else
     0

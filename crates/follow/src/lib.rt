@@ -124,7 +124,7 @@ fn number_of(p: Pending, kind: u8, identifier: u16) -> u8
     ensures { λ r. ⌜ r ≡ numberOf p kind identifier ⌝ }
 {
     if none_waits(p, kind) {
-        return 5;
+        return 11;
     }
     if other_answer(p, kind, identifier) {
         return 6;
@@ -135,7 +135,7 @@ fn number_of(p: Pending, kind: u8, identifier: u16) -> u8
     0
 }
 
-// Numbers 5, 6 and 9 of an event of kinds 16 to 31; else 0.
+// Numbers 11, 6 and 9 of an event of kinds 16 to 31; else 0.
 pub fn remote_refusal(r: Remote, e: Event) -> u8
     ensures { λ n. ⌜ n ≡ remoteRefusal r e ⌝ }
 {

@@ -41,6 +41,10 @@ pub nor-r : (a b : Bool) → T (not (a || b)) → T (not b)
 nor-r true b t = absurd t
 nor-r false b t = t
 
+pub nor-i : (a b : Bool) → T (not a) → T (not b) → T (not (a || b))
+nor-i true b s t = s
+nor-i false b s t = t
+
 pub not-not : (b : Bool) → T (not (not b)) → T b
 not-not true t = t
 not-not false t = t

@@ -6,7 +6,7 @@ use Rattle.identifier.specs.Identifier.{distinct, firstFree}
 use Rattle.waits.specs.Waits.{room, lastAfter, afterAll, takeAll}
 use Rattle.waits.specs.Soundness.{waitsHold, waitsUnused}
 use Rattle.call.specs.Soundness.{soundOutgoing, soundIncoming, soundCall}
-use Rattle.call.specs.State.{stateForbids}
+use Rattle.call.specs.State.{basicForbids, stateForbids}
 use Rattle.call.specs.Incoming.{actIncoming}
 use Rattle.call.specs.Outgoing.{actOutgoing}
 use Rattle.call.specs.Act.{act}
@@ -21,5 +21,5 @@ use Rattle.printout.specs.Line.{digits, line, printed}
 use Rattle.printout.specs.Cases.{charactersOf, casesP, expectedP}
 
 pub cases-p : casesP ≡ expectedP
-unfolding first all any wellMade distinct firstFree room lastAfter afterAll takeAll waitsHold waitsUnused soundOutgoing soundIncoming soundCall stateForbids actIncoming actOutgoing act requestsOf sound refusalOnSound refusal done byNumber step digits line printed charactersOf callMade remoteHolds identifiersOf far.step lapse remoteRefusal
+unfolding first all any wellMade distinct firstFree room lastAfter afterAll takeAll waitsHold waitsUnused soundOutgoing soundIncoming soundCall basicForbids stateForbids actIncoming actOutgoing act requestsOf sound refusalOnSound refusal done byNumber step digits line printed charactersOf callMade remoteHolds identifiersOf far.step lapse remoteRefusal
 cases-p = refl

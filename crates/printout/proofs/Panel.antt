@@ -9,7 +9,7 @@ use Rattle.identifier.specs.Identifier.{distinct, firstFree}
 use Rattle.waits.specs.Waits.{room, lastAfter, afterAll, takeAll}
 use Rattle.waits.specs.Soundness.{waitsHold, waitsUnused}
 use Rattle.call.specs.Soundness.{soundOutgoing, soundIncoming, soundCall}
-use Rattle.call.specs.State.{stateForbids}
+use Rattle.call.specs.State.{basicForbids, stateForbids}
 use Rattle.call.specs.Incoming.{actIncoming}
 use Rattle.call.specs.Outgoing.{actOutgoing}
 use Rattle.call.specs.Act.{act}
@@ -27,5 +27,5 @@ use Rattle.printout.specs.Cases.{charactersOf}
 -- nothing printed for no input; an open outgoing call, then a record that is cut behind its first byte
 pub panel-small : panelText [] ++ panelText (1 ∷ replicate 10 0 ++ (101 ∷ replicate 11 0) ++ (1 ∷ 15 ∷ []))
     ≡ charactersOf "0 0 0 - - - - -\ncut 1\n"
-unfolding first all any eventAt eventsFrom wellMade distinct firstFree room lastAfter afterAll takeAll waitsHold waitsUnused soundOutgoing soundIncoming soundCall stateForbids actIncoming actOutgoing act requestsOf sound refusalOnSound refusal done byNumber step digits line printed flatten panelText charactersOf callMade remoteHolds identifiersOf far.step lapse remoteRefusal
+unfolding first all any eventAt eventsFrom wellMade distinct firstFree room lastAfter afterAll takeAll waitsHold waitsUnused soundOutgoing soundIncoming soundCall basicForbids stateForbids actIncoming actOutgoing act requestsOf sound refusalOnSound refusal done byNumber step digits line printed flatten panelText charactersOf callMade remoteHolds identifiersOf far.step lapse remoteRefusal
 panel-small = refl

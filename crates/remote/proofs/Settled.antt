@@ -74,7 +74,7 @@ ends-only r e identifier sort small w n =
     timed.ends-only (lengthOf sort) (e .time) p m w (rw (each-timed r e identifier sort small) at n) in
     ends r e identifier sort (role e) (timed.tells (lengthOf sort) (e .time) p m d)
 
--- numbers 5 and 6 are not given: it waits, with that identifier
+-- numbers 11 and 6 are not given: it waits, with that identifier
 answered-its : (r : Remote) (e : Event) → T (answersOurs e) → T (eqb (remoteRefusal r e) 0) → (T (waits (its r e))) × (e .identifier ≡ its r e .identifier)
 unfolding remoteRefusal
 answered-its r e a z =

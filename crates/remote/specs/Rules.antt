@@ -25,7 +25,7 @@ its r e = pendingOf (sortOf e) (r .pending)
 abbrev pub alreadyAsked : Remote → Event → Bool
 alreadyAsked r e = asks e && waits (its r e)
 
--- "a result or error with none pending is 5"
+-- "a result or error with none pending is 5"; Eight: "in Seven its case becomes 11"
 abbrev pub noneWaits : Remote → Event → Bool
 noneWaits r e = answersOurs e && not (waits (its r e))
 
@@ -33,10 +33,10 @@ noneWaits r e = answersOurs e && not (waits (its r e))
 abbrev pub otherAnswer : Remote → Event → Bool
 otherAnswer r e = answersOurs e && not (eqb (e .identifier) (its r e .identifier))
 
--- the three in the order of their numbers; an event's kind has 5 and 6, or 9, or none of them
+-- the three in the order of their tests; an event's kind has 11 and 6, or 9, or none of them
 unfoldable pub remoteRefusal : Remote → Event → ℕ
 remoteRefusal r e =
-    when noneWaits r e then 5 else
+    when noneWaits r e then 11 else
     when otherAnswer r e then 6 else
     when alreadyAsked r e then 9 else
     0

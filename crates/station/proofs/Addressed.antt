@@ -8,12 +8,10 @@ use Rattle.ground.proofs.Bools.{nor-r, from-true}
 use Rattle.event.specs.declared.Event.{Event}
 use Rattle.event.specs.Kinds.{opens, ofIncoming, ofOutgoing, clock, ends}
 use Rattle.call.specs.declared.Call.{Call}
-use Rattle.call.specs.State.{stateForbids}
-use Rattle.call.proofs.Kept.{addressed}
+use Rattle.call.specs.State.{wrongCall, addressed, stateForbids}
 use Rattle.call.proofs.Requests.{open-unnamed, clock-unnamed}
 use Rattle.station.specs.declared.Station.{Station}
 use Rattle.station.specs.Table.{at, place}
-use Rattle.station.specs.Refusals.{wrongCall}
 use Rattle.station.proofs.Numbers.{Passed}
 
 pub addressed-there : (s : Station) (calls : List Call) (e : Event) → Passed s calls e

@@ -15,7 +15,7 @@ use Rattle.event.specs.WellMade.{wellMade}
 use Rattle.call.specs.declared.Call.{Call}
 use Rattle.call.specs.declared.Effect.{Effect}
 use Rattle.call.specs.Record.{freeCall}
-use Rattle.call.specs.State.{stateForbids}
+use Rattle.call.specs.State.{basicForbids, stateForbids}
 use Rattle.call.specs.Incoming.{due, idle, expired}
 use Rattle.call.specs.Act.{act}
 use Rattle.timed.specs.Timed.{dueNow, noTimer}
@@ -119,7 +119,7 @@ clock-count s calls e z t = counted-down (stepped s calls e) z t
 
 -- a clock event is done wherever the table is sound and its time has not passed
 clock-done : (s : Station) (calls : List Call) (e : Event) → T (clock e) → T (wellMade e) → T (sound s calls) → s .last ≤ e .time → codeOf s calls e ≡ 0
-unfolding refusal refusalOnSound stateForbids
+unfolding refusal refusalOnSound basicForbids stateForbids
 clock-done s calls e t m h l =
     code-refusal s calls e ∙ rw (is-true (sound s calls) h, le-ltb (e .time) (s .last) l, is-true (wellMade e) m, kindOf e t)
 

@@ -15,7 +15,7 @@ use Rattle.event.specs.Kinds.{clock}
 use Rattle.event.specs.Remote.{receives, ofRemote, remoteFields}
 use Rattle.event.specs.WellMade.{wellMade}
 use Rattle.call.specs.declared.Call.{Call}
-use Rattle.call.specs.State.{stateForbids}
+use Rattle.call.specs.State.{basicForbids, stateForbids}
 use Rattle.remote.specs.declared.Remote.{Remote}
 use Rattle.remote.specs.declared.Moved.{Moved}
 use Rattle.remote.specs.Held.{keptFor, firstDue}
@@ -53,7 +53,7 @@ far-steps s calls e = steps-of (stepped s calls e)
 
 -- of the tests of a call's event, none is for these kinds
 pub far-numbers : FarNumbers
-unfolding refusal refusalOnSound wellMade stateForbids remoteRefusal
+unfolding refusal refusalOnSound wellMade basicForbids stateForbids remoteRefusal
 far-numbers s calls e h l t f =
     let a : 16 ≤ e .kind = search (and-l, leb→le) in
     code-refusal s calls e

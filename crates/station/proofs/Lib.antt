@@ -1,6 +1,7 @@
 pub mod Numbers
 pub mod Stepped
 pub mod Demand1
+pub mod Split
 pub mod Whole
 pub mod Requests
 pub mod Places

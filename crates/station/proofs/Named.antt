@@ -14,11 +14,11 @@ use Rattle.event.specs.declared.Event.{Event}
 use Rattle.event.specs.Kinds.{opens, ofIncoming, ofOutgoing, clock, ends}
 use Rattle.event.specs.Remote.{ofRemote}
 use Rattle.call.specs.declared.Call.{Call}
+use Rattle.call.specs.State.{wrongCall}
 use Rattle.call.specs.Record.{freeCall, isFree}
 use Rattle.call.proofs.Made.{Made, opensOutgoing, opensIncoming, opensDiverted, alerts, answers, divertsCall, results, rejects, legFails, clocks, endsOwn, invokes, informs, messages, farEnds, made}
 use Rattle.station.specs.declared.Station.{Station}
 use Rattle.station.specs.Table.{at, place}
-use Rattle.station.specs.Refusals.{wrongCall}
 use Rattle.station.specs.Step.{Outcome, effectAt, doneAt, onCall, step}
 use Rattle.station.specs.Demand1.{codeOf}
 use Rattle.station.specs.Demand2.{Lowest, Names, DoneNames, OpenTakes}

@@ -18,7 +18,7 @@ use Rattle.call.specs.declared.Call.{Call}
 use Rattle.call.specs.Record.{isFree}
 use Rattle.call.specs.Incoming.{due}
 use Rattle.call.specs.Stricter.{StricterEvent, same, lower, hide, StricterCall, stricter}
-use Rattle.call.proofs.Stricter.{Framed, framed, framed-of, forbids-same, free-same, due-same, free-stricter}
+use Rattle.call.proofs.Stricter.{Framed, framed, framed-of, forbids-same, basic-same, free-same, due-same, free-stricter}
 use Rattle.station.specs.declared.Station.{Station}
 use Rattle.station.specs.Table.{at, requestsOf, sound, identifierFor, place}
 use Rattle.station.specs.Refusals.{refusalOnSound, refusal}
@@ -103,13 +103,13 @@ module _ {t t' : List Call} (q : Forall₂ StricterCall t t') where
   on-call-same : {e e' : Event} → Framed e e' → onCall t' e' ≡ onCall t e
   on-call-same (framed e option flag) = rw (place-same (framed e option flag), length-rel q)
 
-  -- numbers 2 to 9
+  -- every number but 1
   numbers-same : (s : Station) {e e' : Event} → Framed e e' → wellMade e' ≡ wellMade e → refusalOnSound s t' e' ≡ refusalOnSound s t e
   unfolding refusalOnSound
   numbers-same s (framed e option flag) made =
       let c = at-stricter (e .call) in
       let w = same-states c in
-      rw (made, length-rel q, w .direction, w .identifier, w .counter, forbids-same c (framed e option flag), first-same isFree free-same q)
+      rw (made, length-rel q, w .direction, w .identifier, w .counter, basic-same c (framed e option flag), forbids-same c (framed e option flag), first-same isFree free-same q)
 
   -- number 1 is given in neither run: both tables are sound
   pub refusal-same : (s : Station) {e e' : Event} → T (sound s t) → T (sound s t') → StricterEvent e e' → refusal s t' e' ≡ refusal s t e

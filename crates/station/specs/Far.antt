@@ -45,7 +45,7 @@ FarSteps =
     (s : Station) (calls : List Call) (e : Event)
     → step s calls e .station .remote ≡ (when eqb (codeOf s calls e) 0 && not (onCall calls e) then farMoved s calls e .remote else s .remote)
 
--- on a sound table, in time and with its fields as they should be, such an event has the number 5, 6 or 9, or is done
+-- on a sound table, in time and with its fields as they should be, such an event has the number 11, 6 or 9, or is done
 abbrev pub FarNumbers : Type 0
 FarNumbers =
     (s : Station) (calls : List Call) (e : Event) → T (sound s calls) → s .last ≤ e .time → T (ofRemote e) → T (remoteFields e)

@@ -1,6 +1,6 @@
 -- "Numbers of the answers, tested in this order"
-use Prim.Native.Nat.{ℕ, _+_}
-use mathlib.Core.Bool.{Bool, false, _&&_, _||_, not}
+use Prim.Native.Nat.{ℕ}
+use mathlib.Core.Bool.{Bool, _&&_, _||_, not}
 use mathlib.Core.List.{List}
 use lib.Dec.{ltb, leb, eqb}
 use lib.ListN.{length}
@@ -10,8 +10,8 @@ use Rattle.event.specs.declared.Event.{Event}
 use Rattle.event.specs.Kinds.{opens, ofIncoming, ofOutgoing, diverts, answersRequest, ends}
 use Rattle.event.specs.WellMade.{wellMade}
 use Rattle.call.specs.declared.Call.{Call}
-use Rattle.call.specs.Record.{isFree, isOutgoing, isIncoming}
-use Rattle.call.specs.State.{stateForbids}
+use Rattle.call.specs.Record.{isFree}
+use Rattle.call.specs.State.{wrongCall, basicForbids, stateForbids}
 use Rattle.call.specs.Incoming.{counterSent}
 use Rattle.remote.specs.Rules.{alreadyAsked, noneWaits, otherAnswer}
 use Rattle.station.specs.declared.Station.{Station}
@@ -32,17 +32,18 @@ early s e = ltb (e .time) (s .last)
 abbrev pub illMade : Event → Bool
 illMade e = not (wellMade e)
 
--- "free, or of the other direction (4 to 9, 15 incoming; 12 to 14 outgoing; 11 either)"
-abbrev pub wrongCall : Call → Event → Bool
-wrongCall c e =
-    (ofIncoming e && not (isIncoming c)) || (ofOutgoing e && not (isOutgoing c)) || (ends e && isFree c)
-
 -- "4: call past the table's end, free, or of the other direction"
 abbrev pub noSuchCall : List Call → Event → Bool
 noSuchCall calls e =
     ((ofIncoming e || ofOutgoing e || ends e) && leb (length calls) (e .call)) || wrongCall (at calls (e .call)) e
 
--- "5: The state rules below don't take the event"; document 02, Seven: "a result or error with none pending is 5"
+-- document 02, Eight: "10 when no sound record in that basic state takes the event", by the table of `call/specs/State`, which is that sentence
+-- (`BasicExact`; of this number `Demand1: TenExact`)
+abbrev pub notInBasicState : List Call → Event → Bool
+notInBasicState calls e = basicForbids (at calls (e .call)) e
+
+-- "5: The state rules below don't take the event"; document 02, Seven: "a result or error with none pending is 5"; Eight: behind 10 this
+-- is "11 when only a service state (CDS, CDR, CDO, a grant, a missing leg 2) forbids it"; "in Seven its case becomes 11"; "5 is no longer given"
 abbrev pub notTaken : Station → List Call → Event → Bool
 notTaken s calls e = stateForbids (at calls (e .call)) e || noneWaits (s .remote) e
 
@@ -66,13 +67,14 @@ noFreeRecord calls e = opens e && leb (length calls) (first isFree calls)
 abbrev pub pendingAlready : Station → Event → Bool
 pendingAlready s e = alreadyAsked (s .remote) e
 
--- numbers 2 to 9, or 0: what is left where the table was found sound
+-- what is left where the table was found sound; 10 and 11 stand where 5 stood
 unfoldable pub refusalOnSound : Station → List Call → Event → ℕ
 refusalOnSound s calls e =
     when early s e then 2 else
     when illMade e then 3 else
     when noSuchCall calls e then 4 else
-    when notTaken s calls e then 5 else
+    when notInBasicState calls e then 10 else
+    when notTaken s calls e then 11 else
     when foreignAnswer s (at calls (e .call)) e then 6 else
     when overLimit s (at calls (e .call)) e then 7 else
     when noFreeRecord calls e then 8 else

@@ -1,32 +1,28 @@
 -- The numbers of an event by its kind: an open, a clock event, an event on a call, one of kinds 16 to 31; and the code's order of the tests, which gives 8 where it gives 4 and has the page's numbers all the same. Assumes nothing.
 use Prim.Native.Nat.{ℕ, _≤_, _<_}
-use mathlib.Core.Bool.{Bool, true, false, _&&_, _||_, not}
+use mathlib.Core.Bool.{Bool, true, false, _&&_, _||_, not, false≢true}
 use mathlib.Core.List.{List}
-use mathlib.Core.Path.{_≡_, refl, sym, ap, _∙_}
+use mathlib.Core.Path.{_≡_, refl, sym, _∙_}
 use native.Mathlib.Omega.{arith}
 use borrow.Author.Tests.{ne-eqb, lt-ltb, le-ltb, lt-leb, leb-true, ltb-true, ltb-false, eqb-true, eqb-false}
 use lib.Dec.{eqb, ltb, leb}
 use lib.ListN.{length}
 use Rattle.ground.specs.Choice.{when_then_else_}
 use Rattle.ground.specs.Lists.{first}
-use Rattle.ground.proofs.Bools.{by-cases}
+use Rattle.ground.proofs.Bools.{by-cases, upheld}
 use Rattle.ground.proofs.Walks.{both, and-false, or-false}
 use Rattle.event.specs.declared.Event.{Event}
-use Rattle.event.specs.Kinds.{opens, ofIncoming, ofOutgoing, ends, diverts, answersRequest, clock}
+use Rattle.event.specs.Kinds.{opens, ofIncoming, ofOutgoing, ends, clock}
 use Rattle.event.specs.Remote.{ofRemote, remoteFields}
 use Rattle.event.specs.WellMade.{wellMade}
 use Rattle.call.specs.declared.Call.{Call}
-use Rattle.call.specs.declared.Effect.{Effect}
 use Rattle.call.specs.Record.{isFree}
-use Rattle.call.specs.State.{stateForbids}
-use Rattle.call.specs.Incoming.{due, expired}
-use Rattle.call.specs.Act.{act, opened}
+use Rattle.call.specs.State.{wrongCall, basicForbids, stateForbids, tenOrEleven, stateNumber}
 use Rattle.remote.specs.Rules.{noneWaits, remoteRefusal}
 use Rattle.station.specs.declared.Station.{Station}
-use Rattle.station.specs.Table.{at, place, identifierFor}
-use Rattle.station.specs.Refusals.{early, illMade, wrongCall, noSuchCall, notTaken, otherIdentifier, foreignAnswer, overLimit, noFreeRecord, pendingAlready, refusalOnSound}
-use Rattle.station.specs.Step.{effectAt}
-use Rattle.event.proofs.Groups.{opener, no-opener, no-incoming, no-outgoing, past-incoming}
+use Rattle.station.specs.Table.{at}
+use Rattle.station.specs.Refusals.{early, illMade, otherIdentifier, foreignAnswer, overLimit, pendingAlready, refusalOnSound}
+use Rattle.event.proofs.Groups.{opener, no-opener, no-incoming, no-outgoing}
 use Rattle.turn.specs.declared.Seen.{Seen}
 use Rattle.turn.specs.Turn.{beyond, noRecord, numberOf, farNumber}
 use Rattle.turn.proofs.Sorts.{kind-low, far-made, names}
@@ -36,11 +32,12 @@ either : (a b : Bool) (x y : ℕ) → (when a || b then x else y) ≡ (when a th
 either true b x y = refl
 either false b x y = refl
 
--- numbers 4 to 7 where the event names a call, or 0
+-- numbers 4, 10, 11, 6 and 7 where the event names a call, or 0
 abbrev pub namedRefusal : Station → Call → Event → ℕ
 namedRefusal s c e =
     when wrongCall c e then 4 else
-    when stateForbids c e then 5 else
+    when basicForbids c e then 10 else
+    when stateForbids c e then 11 else
     when otherIdentifier c e then 6 else
     when overLimit s c e then 7 else
     0
@@ -51,7 +48,8 @@ numbers s e far c full =
     when early s e then 2 else
     when illMade e then 3 else
     when ((ofIncoming e || ofOutgoing e || ends e) && far) || wrongCall c e then 4 else
-    when stateForbids c e || noneWaits (s .remote) e then 5 else
+    when basicForbids c e then 10 else
+    when stateForbids c e || noneWaits (s .remote) e then 11 else
     when foreignAnswer s c e then 6 else
     when overLimit s c e then 7 else
     when opens e && full then 8 else
@@ -78,7 +76,7 @@ module _ (s : Station) (e : Event) (far : Bool) (c : Call) (full : Bool) where
     module _ (w : wellMade e ≡ true) where
       -- an open is refused only where no record is free
       pub numbers-open : e .kind < 4 → numbers s e far c full ≡ (when full then 8 else 0)
-      unfolding stateForbids
+      unfolding basicForbids stateForbids
       numbers-open k =
           simp (
             le-ltb (e .time) (s .last) h,
@@ -96,7 +94,7 @@ module _ (s : Station) (e : Event) (far : Bool) (c : Call) (full : Bool) where
 
       -- a clock event is never refused
       pub numbers-clock : e .kind ≡ 10 → numbers s e far c full ≡ 0
-      unfolding stateForbids
+      unfolding basicForbids stateForbids
       numbers-clock k = rw (le-ltb (e .time) (s .last) h, w, k)
 
       -- an event on a call
@@ -107,7 +105,7 @@ module _ (s : Station) (e : Event) (far : Bool) (c : Call) (full : Bool) where
 
       -- one of kinds 16 to 31: of the tests of a call's event, none is for it
       pub numbers-far : ofRemote e ≡ true → numbers s e far c full ≡ remoteRefusal (s .remote) e
-      unfolding stateForbids remoteRefusal
+      unfolding basicForbids stateForbids remoteRefusal
       numbers-far o =
           let a : 16 ≤ e .kind = leb-true 16 (e .kind) (both (leb 16 (e .kind)) (leb (e .kind) 31) o .0) in
           simp (
@@ -129,10 +127,29 @@ abbrev pub later : Station → Event → Seen → ℕ
 later s e v =
     when not (wellMade e) then 3 else
     when beyond v || wrongCall (v .call) e then noRecord (e .kind) else
-    when stateForbids (v .call) e then 5 else
+    when basicForbids (v .call) e then 10 else
+    when stateForbids (v .call) e then 11 else
     when otherIdentifier (v .call) e then 6 else
     when overLimit s (v .call) e then 7 else
     0
+
+-- the two tests of the state by their one number: what is tested behind them counts only where it is 0
+goes-on : (a b : Bool) (number : ℕ) → (tenOrEleven a b ≡ 0 → ⊥) → tenOrEleven a b ≡ (when a then 10 else when b then 11 else number)
+goes-on true b number n = refl
+goes-on false true number n = refl
+goes-on false false number n = absurd (n refl)
+
+neither-one : (a b : Bool) → tenOrEleven a b ≡ 0 → (a ≡ false) × (b ≡ false)
+neither-one true b n = absurd (omega (arith, n))
+neither-one false true n = absurd (omega (arith, n))
+neither-one false false n = (refl, refl)
+
+module _ (c : Call) (e : Event) (state : ℕ) (q : state ≡ stateNumber c e) where
+  pub by-state : (number : ℕ) → not (eqb state 0) ≡ true → state ≡ (when basicForbids c e then 10 else when stateForbids c e then 11 else number)
+  by-state number z = q ∙ goes-on (basicForbids c e) (stateForbids c e) number (λ x. false≢true (rw (q ∙ x) at z))
+
+  pub past-state : not (eqb state 0) ≡ false → (basicForbids c e ≡ false) × (stateForbids c e ≡ false)
+  past-state z = neither-one (basicForbids c e) (stateForbids c e) (sym q ∙ eqb-true state 0 (upheld (eqb state 0) (eqb state 0) refl z))
 
 same-two : (b : Bool) (n : ℕ) → (when b then n else n) ≡ n
 same-two true n = refl
@@ -140,7 +157,7 @@ same-two false n = refl
 
 module _ (s : Station) (e : Event) (v : Seen) where
   later-open : wellMade e ≡ true → e .kind < 4 → later s e v ≡ (when beyond v then 8 else 0)
-  unfolding stateForbids
+  unfolding basicForbids stateForbids
   later-open w k =
       let l = kind-low e w in
       simp (
@@ -157,7 +174,7 @@ module _ (s : Station) (e : Event) (v : Seen) where
       )
 
   later-clock : wellMade e ≡ true → e .kind ≡ 10 → later s e v ≡ 0
-  unfolding stateForbids
+  unfolding basicForbids stateForbids
   later-clock w k = rw (w, k) (same-two (beyond v || false) 0)
 
   later-named : wellMade e ≡ true → 4 ≤ e .kind → (e .kind ≡ 10 → ⊥) → later s e v ≡ (when beyond v then 4 else namedRefusal s (v .call) e)

@@ -4,19 +4,18 @@ use mathlib.Core.Bool.{Bool, true, false, _&&_, _||_, not, false≢true}
 use mathlib.Core.Path.{_≡_, refl, sym, ap, _∙_}
 use native.Mathlib.Omega.{arith}
 use borrow.Author.Tests.{ltb-false, leb-false, eqb-true, eqb-false, ne-eqb}
-use lib.Dec.{eqb, ltb, leb}
+use lib.Dec.{eqb}
 use Rattle.ground.specs.Choice.{when_then_else_}
-use Rattle.ground.proofs.Bools.{by-cases}
+use Rattle.ground.proofs.Bools.{by-cases, upheld}
 use Rattle.ground.proofs.Walks.{neither}
 use Rattle.event.specs.declared.Event.{Event}
 use Rattle.event.specs.Kinds.{opens, ofIncoming, ofOutgoing, ends}
 use Rattle.event.specs.Remote.{ofRemote}
 use Rattle.event.specs.WellMade.{wellMade}
-use Rattle.call.specs.declared.Call.{Call}
-use Rattle.call.specs.State.{stateForbids}
+use Rattle.call.specs.State.{wrongCall, basicForbids, stateForbids}
 use Rattle.remote.specs.Rules.{noneWaits}
 use Rattle.station.specs.declared.Station.{Station}
-use Rattle.station.specs.Refusals.{early, illMade, wrongCall, foreignAnswer, overLimit, pendingAlready}
+use Rattle.station.specs.Refusals.{early, illMade, foreignAnswer, overLimit, pendingAlready}
 use Rattle.turn.specs.declared.Seen.{Seen}
 use Rattle.turn.specs.declared.Turn.{Turn}
 use Rattle.turn.specs.declared.Turn.the-variants.{Refused, Far, Done}
@@ -34,15 +33,12 @@ first-two true b n q = absurd (omega (arith, q))
 first-two false true n q = absurd (omega (arith, q))
 first-two false false n q = (refl, refl)
 
-not-false : (b : Bool) → not b ≡ false → b ≡ true
-not-false true q = refl
-not-false false q = sym q
-
--- numbers 4 to 9
+-- numbers from 4 on
 abbrev from-4 : Station → Event → Seen → ℕ
 from-4 s e v =
     when ((ofIncoming e || ofOutgoing e || ends e) && beyond v) || wrongCall (v .call) e then 4 else
-    when stateForbids (v .call) e || noneWaits (s .remote) e then 5 else
+    when basicForbids (v .call) e then 10 else
+    when stateForbids (v .call) e || noneWaits (s .remote) e then 11 else
     when foreignAnswer s (v .call) e then 6 else
     when overLimit s (v .call) e then 7 else
     when opens e && beyond v then 8 else
@@ -81,7 +77,7 @@ module _ (s : Station) (e : Event) (v : Seen) where
       by-two = first-two (early s e) (illMade e) (from-4 s e v) none
 
       pub made : wellMade e ≡ true
-      made = not-false (wellMade e) (by-two .1)
+      made = upheld (wellMade e) (wellMade e) refl (by-two .1)
 
       -- a divert that is not refused is within the limit, so its counter has room for one more
       pub room : s .limit < 256 → e .kind ≡ 6 → v .call .counter < 255
@@ -90,13 +86,15 @@ module _ (s : Station) (e : Event) (v : Seen) where
           let n8 : ℕ = when pendingAlready s e then 9 else 0 in
           let n7 : ℕ = when opens e && beyond v then 8 else n8 in
           let n6 : ℕ = when overLimit s (v .call) e then 7 else n7 in
-          let n5 : ℕ = when foreignAnswer s (v .call) e then 6 else n6 in
-          let n4 : ℕ = when stateForbids (v .call) e || noneWaits (s .remote) e then 5 else n5 in
+          let n11 : ℕ = when foreignAnswer s (v .call) e then 6 else n6 in
+          let n10 : ℕ = when stateForbids (v .call) e || noneWaits (s .remote) e then 11 else n11 in
+          let n4 : ℕ = when basicForbids (v .call) e then 10 else n10 in
           let n2 : ℕ = when illMade e then 3 else from-4 s e v in
           let a = passed (early s e) 2 n2 none (λ x. omega (arith, x)) in
           let b = passed (illMade e) 3 (from-4 s e v) (a .1) (λ x. omega (arith, x)) in
           let c = passed (((ofIncoming e || ofOutgoing e || ends e) && beyond v) || wrongCall (v .call) e) 4 n4 (b .1) (λ x. omega (arith, x)) in
-          let d = passed (stateForbids (v .call) e || noneWaits (s .remote) e) 5 n5 (c .1) (λ x. omega (arith, x)) in
+          let t = passed (basicForbids (v .call) e) 10 n10 (c .1) (λ x. omega (arith, x)) in
+          let d = passed (stateForbids (v .call) e || noneWaits (s .remote) e) 11 n11 (t .1) (λ x. omega (arith, x)) in
           let f = passed (foreignAnswer s (v .call) e) 6 n6 (d .1) (λ x. omega (arith, x)) in
           let o : overLimit s (v .call) e ≡ false = passed (overLimit s (v .call) e) 7 n7 (f .1) (λ x. omega (arith, x)) .0 in
           let m = ltb-false (s .limit) (v .call .counter + 1) (rw k at o) in

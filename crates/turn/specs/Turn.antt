@@ -12,7 +12,7 @@ use Rattle.event.specs.Remote.{asks, ofRemote, remoteFields}
 use Rattle.identifier.specs.Identifier.{after}
 use Rattle.call.specs.declared.Call.{Call}
 use Rattle.call.specs.declared.Effect.{Effect}
-use Rattle.call.specs.State.{stateForbids}
+use Rattle.call.specs.State.{wrongCall, basicForbids, stateForbids}
 use Rattle.call.specs.Act.{act}
 use Rattle.remote.specs.declared.Remote.{Remote}
 use Rattle.remote.specs.declared.Moved.{Moved}
@@ -20,7 +20,7 @@ use Rattle.remote.specs.Rules as far
 use Rattle.remote.specs.Rules.{noneWaits, remoteRefusal}
 use Rattle.station.specs.declared.Station.{Station}
 use Rattle.station.specs.Table.{at, place, identifierFor}
-use Rattle.station.specs.Refusals.{notSound, early, illMade, wrongCall, foreignAnswer, overLimit, pendingAlready}
+use Rattle.station.specs.Refusals.{notSound, early, illMade, foreignAnswer, overLimit, pendingAlready}
 use Rattle.station.specs.Step.{Outcome, refused, answerOf, farAnswer}
 use Rattle.turn.specs.declared.Seen.{Seen}
 use Rattle.turn.specs.declared.Turn.{Turn}
@@ -38,20 +38,21 @@ seenIn s calls e = record { len = length calls; place = place calls e; identifie
 abbrev pub beyond : Seen → Bool
 beyond v = leb (v .len) (v .place)
 
--- "Numbers of the answers, tested in this order": 2 to 9, or 0
+-- "Numbers of the answers, tested in this order", from 2 on, or 0
 unfoldable pub numberOf : Station → Event → Seen → ℕ
 numberOf s e v =
     when early s e then 2 else
     when illMade e then 3 else
     when ((ofIncoming e || ofOutgoing e || ends e) && beyond v) || wrongCall (v .call) e then 4 else
-    when stateForbids (v .call) e || noneWaits (s .remote) e then 5 else
+    when basicForbids (v .call) e then 10 else
+    when stateForbids (v .call) e || noneWaits (s .remote) e then 11 else
     when foreignAnswer s (v .call) e then 6 else
     when overLimit s (v .call) e then 7 else
     when opens e && beyond v then 8 else
     when pendingAlready s e then 9 else
     0
 
--- of kinds 16 to 31, by what the station holds: 3, or 5, 6 and 9
+-- of kinds 16 to 31, by what the station holds: 3, or 11, 6 and 9
 abbrev pub farNumber : Station → Event → ℕ
 farNumber s e = when not (remoteFields e) then 3 else remoteRefusal (s .remote) e
 

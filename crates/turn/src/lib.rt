@@ -54,8 +54,8 @@ fn no_record(kind: u8) -> u8
     }
 }
 
-// Numbers 3 to 8 of kinds 1 to 15; 0 is done. Tested in the page's order from 3 to 7; 8 is given where 4 is, by the kind: an open has none of 4
-// to 7. The kind comes by itself: as a literal it lets the compiler make each arm of `number_by_kind` a test of its own.
+// Numbers 3, 4, 10, 11, 6, 7 and 8 of kinds 1 to 15; 0 is done. Tested in the page's order; 8 is given where 4 is, by the kind: an open has none
+// of the others behind 3. The kind comes by itself: as a literal it lets the compiler make each arm of `number_by_kind` a test of its own.
 fn number(kind: u8, s: Station, e: Event, seen: Seen) -> u8
     requires { ⌜ (kind ≡ e .kind) × (kind ≤ 15) × (s .last ≤ e .time) ⌝ }
     ensures { λ r. ⌜ r ≡ numberOf s e seen ⌝ }
@@ -70,8 +70,9 @@ fn number(kind: u8, s: Station, e: Event, seen: Seen) -> u8
     if beyond | wrong {
         return no_record(kind);
     }
-    if refusal::state_forbids(kind, c, e) {
-        return 5;
+    let state = refusal::state_number(kind, c, e);
+    if !(state == 0) {
+        return state;
     }
     if refusal::other_identifier(kind, c, e) {
         return 6;
@@ -82,7 +83,7 @@ fn number(kind: u8, s: Station, e: Event, seen: Seen) -> u8
     0
 }
 
-// Numbers 3, 5, 6 and 9 of kinds 16 to 31; 0 is done.
+// Numbers 3, 11, 6 and 9 of kinds 16 to 31; 0 is done.
 fn far_number(s: Station, e: Event) -> u8
     ensures { λ r. ⌜ r ≡ farNumber s e ⌝ }
 {

@@ -28,7 +28,7 @@ pub fn first_seed() -> u64 {
 
 /// How many events were compared, by the number of their answer.
 #[derive(Clone, Copy, Debug, Default)]
-pub struct Counts(pub [u64; 10]);
+pub struct Counts(pub [u64; 12]);
 
 impl Counts {
     pub fn total(&self) -> u64 {
@@ -43,6 +43,16 @@ impl Counts {
 
     pub fn count(&mut self, answer: &Answer) {
         self.0[usize::from(answer.code)] += 1;
+    }
+
+    /// Every number was given more often than that, but 5, which "is no longer
+    /// given" (02, Eight).
+    pub fn each_over(&self, least: u64) -> bool {
+        let mut numbers = self.0.iter().enumerate();
+        numbers.all(|(number, &count)| match number {
+            5 => count == 0,
+            _ => count > least,
+        })
     }
 }
 

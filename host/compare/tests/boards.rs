@@ -24,7 +24,7 @@ fn run(name: &str, case: impl Fn(&mut Random) -> (Board, Event)) {
             }
         }
         println!("{name}, {archive:?}: {counts:?}");
-        assert!(counts.0.iter().all(|&count| count > 10), "{counts:?}");
+        assert!(counts.each_over(10), "{counts:?}");
     }
 }
 

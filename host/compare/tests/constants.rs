@@ -35,6 +35,7 @@ fn refusals() -> Vec<(&'static str, u8)> {
         ..Event::default()
     };
     let mut short = Station::short();
+    let opened = |lines: &str| answered(&format!("open incoming 1 at 1\n{lines}"));
     vec![
         ("DONE", answered("clock at 1")),
         ("NOT_SOUND", step(&mut [], &mut short, &clock).code),
@@ -44,13 +45,11 @@ fn refusals() -> Vec<(&'static str, u8)> {
             answered(&format!("raw {}", "0".repeat(48))),
         ),
         ("NO_SUCH_CALL", answered("alerted call 0 at 1")),
-        (
-            "NOT_IN_STATE",
-            answered("open incoming 1 at 1\nresult call 0 id 1 at 1"),
-        ),
+        ("NOT_IN_BASIC_STATE", opened("divert call 0 cfnr to 2 at 1")),
+        ("NOT_IN_SERVICE_STATE", opened("result call 0 id 1 at 1")),
         (
             "OTHER_IDENTIFIER",
-            answered("open incoming 1 at 1\ndivert call 0 cfu to 2 at 1\nresult call 0 id 1 at 1"),
+            opened("divert call 0 cfu to 2 at 1\nresult call 0 id 1 at 1"),
         ),
         (
             "OVER_LIMIT",
@@ -241,7 +240,20 @@ fn each_wrong_number_is_found() {
         *number += 1;
         assert_eq!(faults(&wrong, &expected).len(), 1, "{:?}", wrong[at]);
     }
-    let mut more = good.clone();
-    more.push(("WHIPSAIL_TOO_EARLY".to_string(), Ok(10)));
-    assert_eq!(faults(&more, &expected).len(), 1);
+    for (name, number) in [(SPLIT, 5), ("WHIPSAIL_TOO_EARLY", 10)] {
+        let mut more = good.clone();
+        more.push((name.to_string(), Ok(number)));
+        assert_eq!(faults(&more, &expected).len(), 1);
+    }
+}
+
+/// What 5 was called before it was split into 10 and 11.
+const SPLIT: &str = "WHIPSAIL_NOT_IN_STATE";
+
+/// A host that named 5 does not compile, and finds in the header what became of it.
+#[test]
+fn the_header_tells_that_5_was_split() {
+    assert!(named().iter().all(|(name, _)| name != SPLIT));
+    let told = headers::text("whipsail_answer.h");
+    assert!(told.contains(&format!("{SPLIT} = 5, where 10 and 11 stand")));
 }

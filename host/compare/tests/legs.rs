@@ -147,6 +147,20 @@ fn sent(answer: &Answer) -> String {
     }
 }
 
+/// "with 11 that FACILITY, on leg 1 before Active, and all but FACILITY on leg 2 in
+/// Delivered; with 10 what is left"
+fn refused(event: &str, leg: &str, state: &str) -> Refusal {
+    let forbidden = match (event, leg) {
+        ("FACILITY", "1") => state != "Active",
+        ("FACILITY", _) => false,
+        _ => leg == "2" && state == "Delivered",
+    };
+    match forbidden {
+        true => Refusal::NotInServiceState,
+        false => Refusal::NotInBasicState,
+    }
+}
+
 #[test]
 fn the_table_of_legs_is_what_the_library_does() {
     let header = headers::text("whipsail_answer.h");
@@ -169,7 +183,7 @@ fn the_table_of_legs_is_what_the_library_does() {
                 let case = format!("{event} on {leg} in {state}, {diverted}: {told:?}");
                 // "FACILITY also where `cdo` is Idle"
                 if found.is_empty() || (event == "FACILITY" && !diverted) {
-                    assert_eq!(told, Err(Refusal::NotInState), "{case}");
+                    assert_eq!(told, Err(refused(event, leg, state)), "{case}");
                     continue;
                 }
                 let ([at], Ok(answer)) = (&found[..], &told) else {

@@ -96,6 +96,11 @@ fn remote() {
 }
 
 #[test]
+fn state() {
+    run(Profile::State);
+}
+
+#[test]
 fn these_are_all_profiles() {
-    assert_eq!(profile::ALL.len(), 9);
+    assert_eq!(profile::ALL.len(), 10);
 }

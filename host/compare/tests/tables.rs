@@ -67,7 +67,7 @@ fn a_million_tables() {
     });
     println!("tables: {counts:?}");
     assert!(counts.total() >= 1_000_000);
-    assert!(counts.0.iter().all(|&count| count > 1_000), "{counts:?}");
+    assert!(counts.each_over(1_000), "{counts:?}");
 }
 
 #[test]
@@ -158,6 +158,6 @@ fn by_the_server_of_each_archive() {
             }
         }
         println!("{archive:?}: {counts:?}");
-        assert!(counts.0.iter().all(|&count| count > 10), "{counts:?}");
+        assert!(counts.each_over(10), "{counts:?}");
     }
 }

@@ -66,7 +66,7 @@ impl Message {
 /// unknown) and identifier 0 are values.
 #[derive(Clone, Debug, Default, PartialEq, Eq, Hash)]
 pub struct Answer {
-    /// 0 done, 1 to 9 refused.
+    /// 0 done, 1 to 4 and 6 to 11 refused: "5 is no longer given" (02, Eight).
     pub code: u8,
     pub call: Option<u8>,
     pub messages: Vec<Message>,

@@ -10,7 +10,7 @@ use crate::station::Station;
 /// "Messages of incoming calls bear leg 1."
 const LEG: u8 = 1;
 
-/// Refusal 5 for the kinds of an incoming call.
+/// The state rules don't take the event; `states` has the number.
 pub fn refuses(record: &Record, event: &Event) -> bool {
     match event.kind {
         USER_ALERTED => record.basic != PROCEEDING || leaving_at_once(record),
@@ -24,7 +24,7 @@ pub fn refuses(record: &Record, event: &Event) -> bool {
     }
 }
 
-/// "Both: 5 if Requested or granted with cfu or cfb."
+/// "Both: 5 if Requested or granted with cfu or cfb." Now it is 11.
 fn leaving_at_once(record: &Record) -> bool {
     (record.is_requested() || record.is_granted()) && record.reason != CFNR
 }

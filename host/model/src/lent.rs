@@ -9,6 +9,7 @@ use crate::random::Random;
 use crate::record::{Record, COUNT, FIELDS, PLAIN};
 use crate::remote_events;
 use crate::station::{self, Station};
+use crate::untimely;
 
 /// One lent table and station with one event for them.
 #[derive(Clone, Debug, PartialEq, Eq)]
@@ -255,7 +256,8 @@ pub fn start(random: &mut Random) -> (Vec<Record>, Station) {
 
 /// One event for a table: mostly one that suits it.
 pub fn event(random: &mut Random, table: &[Record], station: &Station) -> Event {
-    let event = match random.below(29) {
+    let event = match random.below(34) {
+        29.. => untimely::about_a_call(random, table),
         21.. => remote_events::about_the_station(random, table, station),
         0 => guided::wild(random),
         1 | 2 => guided::open(random),

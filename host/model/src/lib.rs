@@ -4,8 +4,10 @@
 #![forbid(unsafe_code)]
 
 pub mod answer;
+pub mod cells;
 pub mod codes;
 pub mod event;
+pub mod every;
 pub mod forwarding;
 pub mod guided;
 pub mod incoming;
@@ -22,15 +24,18 @@ pub mod remote;
 pub mod remote_events;
 pub mod shrink;
 pub mod sound;
+pub mod states;
 pub mod station;
 pub mod station_sound;
 pub mod step;
 pub mod text;
+pub mod untimely;
 pub mod vectors;
 pub mod waits;
 pub mod ways;
 pub mod wrong;
 pub mod wrong_sound;
+pub mod wrong_states;
 
 pub use answer::{Answer, Message};
 pub use event::Event;

@@ -7,7 +7,8 @@ use crate::notice;
 use crate::record::Record;
 use crate::waits::{Dli1, Waits};
 
-/// Refusal 5 for the kinds of an outgoing call.
+/// The state rules don't take the event; `states` has the number, which was 5
+/// in the sentences here.
 pub fn refuses(record: &Record, event: &Event) -> bool {
     // "leg 2 in CDR Idle is 5", of 12 and of 14
     let missing_leg = event.leg == 2 && !record.is_invoked();

@@ -12,6 +12,7 @@ use crate::record::Record;
 use crate::remote_events;
 use crate::station::Station;
 use crate::step::step;
+use crate::untimely;
 
 #[derive(Clone, Copy, Debug, PartialEq, Eq, Hash)]
 pub enum Profile {
@@ -34,9 +35,11 @@ pub enum Profile {
     Chain,
     /// Kinds 16 to 31 among few calls with open requests.
     Remote,
+    /// Few calls that meet events too early or twice.
+    State,
 }
 
-pub const ALL: [Profile; 9] = [
+pub const ALL: [Profile; 10] = [
     Profile::Mixed,
     Profile::Deep,
     Profile::Full,
@@ -46,6 +49,7 @@ pub const ALL: [Profile; 9] = [
     Profile::Second,
     Profile::Chain,
     Profile::Remote,
+    Profile::State,
 ];
 
 /// How a profile chooses; chances are in percent, tried in this order.
@@ -74,6 +78,7 @@ impl Profile {
             Profile::Second => "second",
             Profile::Chain => "chain",
             Profile::Remote => "remote",
+            Profile::State => "state",
         }
     }
 
@@ -98,6 +103,7 @@ impl Profile {
             Profile::Second => taste(0, 0, 1, 1, 30, 4, 0, 1),
             Profile::Chain => taste(0, 1, 1, 1, 20, 3, 0, 1),
             Profile::Remote => taste(0, 3, 2, 12, 15, 5, 1, 3),
+            Profile::State => taste(0, 1, 1, 1, 20, 8, 0, 1),
         }
     }
 }
@@ -185,6 +191,7 @@ impl Walk {
                 guided::open_handed(random, event)
             }
             Profile::Chain => forwarding::about_a_call(random, &self.table),
+            Profile::State if random.chance(60) => untimely::about_a_call(random, &self.table),
             _ => guided::about_a_call(random, &self.table),
         }
     }

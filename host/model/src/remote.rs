@@ -87,12 +87,13 @@ impl Remote {
 }
 
 /// "16 to 19 with one of the same sort pending is 9; a result or error with
-/// none pending is 5, with another identifier 6."
+/// none pending is 5, with another identifier 6." (02, Seven) "in Seven its
+/// [5's] case becomes 11, and 9 stays" (02, Eight)
 pub fn refusal(remote: &Remote, event: &Event) -> u8 {
     let pending = &remote.pending[sort(event.kind)];
     match event.kind {
         ACTIVATION_REQUEST..=CHECK_REQUEST if pending.waits() => 9,
-        ACTIVATION_RESULT..=CHECK_ERROR if !pending.waits() => 5,
+        ACTIVATION_RESULT..=CHECK_ERROR if !pending.waits() => 11,
         ACTIVATION_RESULT..=CHECK_ERROR if event.identifier != pending.identifier => 6,
         _ => 0,
     }

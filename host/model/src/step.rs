@@ -6,7 +6,7 @@ use crate::event::Event;
 use crate::record::Record;
 use crate::sound;
 use crate::station::Station;
-use crate::{incoming, outgoing, remote};
+use crate::{incoming, outgoing, remote, states};
 
 /// Takes one event. A refusal leaves table and station as they are; "a done
 /// event makes its time the last time".
@@ -58,15 +58,13 @@ fn named_record<'a>(table: &'a [Record], event: &Event) -> Option<&'a Record> {
     fits.then_some(record)
 }
 
-/// Refusals 5, 6 and 7 of an event whose call is there.
+/// Refusals 10, 11, 6 and 7 of an event whose call is there: 10 and 11 stand
+/// where 5 stood.
 fn refusal_of_call(record: &Record, station: &Station, event: &Event) -> u8 {
-    let state_refuses = match event.kind {
-        REROUTE..=MESSAGE => outgoing::refuses(record, event),
-        _ => incoming::refuses(record, event),
-    };
+    let by_state = states::refusal(record, event);
     let answers_request = matches!(event.kind, RESULT | ERROR);
-    if state_refuses {
-        5
+    if by_state != 0 {
+        by_state
     } else if answers_request && event.identifier != record.identifier {
         6
     } else if event.kind == USER_DIVERTS && record.counter + 1 > station.limit {

@@ -2,6 +2,7 @@
 
 use crate::panel;
 use crate::profile::{self, Profile};
+use crate::step::step;
 use crate::text;
 use std::fmt::Write;
 
@@ -115,6 +116,112 @@ pub fn sixty_eight() -> String {
     lines
 }
 
+/// What brings an incoming call into each state; ID is its identifier.
+const INCOMING: [&[&str]; 7] = [
+    &[],
+    &["divert call 0 cfu to 3"],
+    &["divert call 0 cfb to 3", "result call 0 id ID"],
+    &["alerted call 0"],
+    &["alerted call 0", "divert call 0 cfnr to 3"],
+    &[
+        "alerted call 0",
+        "divert call 0 cfnr to 3",
+        "result call 0 id ID",
+    ],
+    &["answer call 0"],
+];
+
+const TO_INCOMING: [&str; 12] = [
+    "alerted call 0",
+    "answer call 0",
+    "divert call 0 cfu to 3",
+    "divert call 0 cfb to 3",
+    "divert call 0 cfnr to 3",
+    "result call 0 id ID",
+    "result call 0 id 40000",
+    "error call 0 id ID",
+    "error call 0 id 40000",
+    "leg-failed call 0",
+    "end call 0",
+    "far-end call 0",
+];
+
+const RINGS: &str = "message call 0 leg 1 alerting";
+const CONNECTS: &str = "message call 0 leg 1 connect";
+const TOLD: &str = "dli1 call 0 cfu with-number to 150";
+const INVOKES: &str = "reroute call 0 leg 1 cfnr counter 1 id 9 to 207";
+
+/// What brings an outgoing call into each state.
+const OUTGOING: [&[&str]; 8] = [
+    &[],
+    &[TOLD],
+    &[RINGS],
+    &[TOLD, RINGS],
+    &[RINGS, INVOKES],
+    &[TOLD, RINGS, INVOKES],
+    &[CONNECTS],
+    &[TOLD, CONNECTS],
+];
+
+const TO_OUTGOING: [&str; 14] = [
+    "reroute call 0 leg 1 cfu counter 1 id 9 to 3",
+    INVOKES,
+    "reroute call 0 leg 2 cfb counter 1 id 9 to 3",
+    "reroute call 0 leg 2 cfnr counter 1 id 9 to 3",
+    TOLD,
+    DLI3,
+    RINGS,
+    CONNECTS,
+    "message call 0 leg 1 release-complete",
+    "message call 0 leg 2 facility dli3-allowed",
+    "message call 0 leg 2 alerting",
+    "message call 0 leg 2 connect",
+    "message call 0 leg 2 release-complete",
+    "end call 0",
+];
+
+/// One call after the other in each state, each with one event: those that a
+/// state takes, and those that are 10 and 11 (02, Eight). At the end answers
+/// with none pending.
+pub fn every_state() -> String {
+    let mut lines = String::new();
+    let (mut table, mut station) = panel::start();
+    let mut line = |words: &str| {
+        let identifier = match table[0].identifier {
+            0 => 7,
+            open => open,
+        };
+        let words = format!("{words} at 1\n").replace("ID", &identifier.to_string());
+        for event in panel::records(&text::encode(&words).unwrap_or_default()).0 {
+            step(&mut table, &mut station, &event);
+        }
+        lines.push_str(&words);
+    };
+    let incoming = ("open incoming 9", &INCOMING[..], &TO_INCOMING[..]);
+    let outgoing = ("open outgoing 101", &OUTGOING[..], &TO_OUTGOING[..]);
+    for (open, states, events) in [incoming, outgoing] {
+        for (before, event) in states
+            .iter()
+            .flat_map(|s| events.iter().map(move |e| (s, e)))
+        {
+            line(open);
+            before.iter().for_each(|words| line(words));
+            line(event);
+            line("end call 0");
+        }
+    }
+    // 10 before 7.
+    line("open incoming 9 diverted cfu counter 15");
+    line("divert call 0 cfnr to 3");
+    line("divert call 0 cfu to 3");
+    for sort in ["activation", "deactivation", "interrogation", "check"] {
+        let told = if sort == "interrogation" { " to 3" } else { "" };
+        line(&format!("{sort} result id 1{told}"));
+        line(&format!("{sort} error id 0"));
+    }
+    lines
+}
+
 /// Events of each profile's file.
 const COUNT: usize = 1000;
 
@@ -126,6 +233,10 @@ pub fn all() -> Vec<(&'static str, Vec<u8>)> {
         (
             "sixty-eight",
             text::encode(&sixty_eight()).unwrap_or_default(),
+        ),
+        (
+            "every-state",
+            text::encode(&every_state()).unwrap_or_default(),
         ),
     ];
     for (at, profile) in profile::ALL.into_iter().enumerate() {

@@ -113,7 +113,7 @@ fn late(table: &mut [Record], station: &mut Station, event: &Event) -> Answer {
 
 fn any_sort(table: &mut [Record], station: &mut Station, event: &Event) -> Answer {
     let answer = step(table, station, event);
-    if !matches!(answer.code, 5 | 6) || event.kind < ACTIVATION_RESULT {
+    if !matches!(answer.code, 6 | 11) || event.kind < ACTIVATION_RESULT {
         return answer;
     }
     let mut pending = station.remote.pending.iter_mut();
@@ -129,7 +129,7 @@ fn any_sort(table: &mut [Record], station: &mut Station, event: &Event) -> Answe
 fn zero_as_3(table: &mut [Record], station: &mut Station, event: &Event) -> Answer {
     let answer = step(table, station, event);
     let zero = event.kind >= ACTIVATION_RESULT && event.identifier == 0;
-    match zero && matches!(answer.code, 5 | 6) {
+    match zero && matches!(answer.code, 6 | 11) {
         true => Answer::refused(3),
         false => answer,
     }

@@ -75,20 +75,23 @@ fn possible(code: u8, kind: u8) -> bool {
     match code {
         0..=3 => true,
         4 => kind <= FAR_END && !matches!(kind, OPEN_OUTGOING..=OPEN_DIVERTED | CLOCK),
-        5 => {
-            let calls = matches!(kind, USER_ALERTED..=LEG_FAILED | REROUTE..=MESSAGE);
-            calls || kind >= ACTIVATION_RESULT
-        }
         6 => matches!(kind, RESULT | ERROR) || kind >= ACTIVATION_RESULT,
         7 => kind == USER_DIVERTS,
         8 => matches!(kind, OPEN_OUTGOING..=OPEN_DIVERTED),
-        _ => matches!(kind, ACTIVATION_REQUEST..=CHECK_REQUEST),
+        9 => matches!(kind, ACTIVATION_REQUEST..=CHECK_REQUEST),
+        10 => matches!(kind, USER_ALERTED..=LEG_FAILED | REROUTE..=MESSAGE),
+        11 => {
+            let calls = matches!(kind, USER_ALERTED..=LEG_FAILED | REROUTE | MESSAGE);
+            calls || kind >= ACTIVATION_RESULT
+        }
+        // "5 is no longer given"
+        _ => false,
     }
 }
 
 #[test]
 fn lent_cases_meet_every_answer_of_every_kind() {
-    let mut counts = [[0_u32; 256]; 10];
+    let mut counts = [[0_u32; 256]; 12];
     let mut random = Random::new(7);
     for _ in 0..100_000 {
         let mut case = lent::case(&mut random);
@@ -97,7 +100,7 @@ fn lent_cases_meet_every_answer_of_every_kind() {
         check(&before, &(case.table, case.station), &case.event, &answer);
         counts[usize::from(answer.code)][usize::from(case.event.kind)] += 1;
     }
-    for code in 0..=9 {
+    for code in 0..=11 {
         for kind in 1..=31 {
             let met = counts[usize::from(code)][usize::from(kind)];
             assert_eq!(

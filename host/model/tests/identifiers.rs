@@ -80,7 +80,7 @@ fn a_result_or_error_with_0_is_3_before_4_5_and_6() {
         }
     }
     assert_eq!(panel.run("result call 0 id 1 at 4").code, 6);
-    assert_eq!(panel.run("result call 1 id 1 at 4").code, 5);
+    assert_eq!(panel.run("result call 1 id 1 at 4").code, 11);
     assert_eq!(panel.run("result call 2 id 1 at 4").code, 4);
 }
 

@@ -193,7 +193,7 @@ fn the_refusals_stand_in_order() {
     codes.push(panel.take(&divert).code);
     panel.station.limit = 2;
     codes.push(panel.take(&divert).code);
-    assert_eq!(codes, [1, 2, 3, 4, 5, 7, 0]);
+    assert_eq!(codes, [1, 2, 3, 4, 10, 7, 0]);
 }
 
 #[test]

@@ -1,4 +1,4 @@
-//! Readings of the fields of events: refusal 3, before 4 and 5.
+//! Readings of the fields of events: refusal 3, before 4, 10 and 11.
 #![forbid(unsafe_code)]
 
 mod common;

@@ -20,10 +20,10 @@ fn code(before: &str, line: &str) -> u8 {
 }
 
 #[test]
-fn alerting_and_answering_are_5_with_an_early_request_or_grant() {
+fn alerting_and_answering_are_11_with_an_early_request_or_grant() {
     for before in [EARLY, EARLY_GRANT] {
-        assert_eq!(code(before, "alerted call 0 at 9"), 5);
-        assert_eq!(code(before, "answer call 0 at 9"), 5);
+        assert_eq!(code(before, "alerted call 0 at 9"), 11);
+        assert_eq!(code(before, "answer call 0 at 9"), 11);
     }
 }
 
@@ -36,15 +36,15 @@ fn answering_ends_an_open_no_reply_request_or_grant() {
         assert_eq!(record(&answered, 0), record(&plain, 0));
     }
     let late = join(REQUESTED, "answer call 0 at 9");
-    assert_eq!(code(&late, "result call 0 id 65535 at 9"), 5);
+    assert_eq!(code(&late, "result call 0 id 65535 at 9"), 10);
 }
 
 #[test]
-fn a_second_alerting_is_5() {
-    assert_eq!(code(RINGS, "alerted call 0 at 9"), 5);
+fn a_second_alerting_is_10() {
+    assert_eq!(code(RINGS, "alerted call 0 at 9"), 10);
     let active = join(RINGS, "answer call 0 at 9");
-    assert_eq!(code(&active, "alerted call 0 at 9"), 5);
-    assert_eq!(code(&active, "answer call 0 at 9"), 5);
+    assert_eq!(code(&active, "alerted call 0 at 9"), 10);
+    assert_eq!(code(&active, "answer call 0 at 9"), 10);
 }
 
 #[test]
@@ -59,13 +59,16 @@ fn alerting_in_wait_is_plain_and_stays_in_wait() {
 fn the_reason_must_fit_the_basic_state() {
     let fresh = "open incoming 102 at 1";
     let active = join(RINGS, "answer call 0 at 3");
-    for (reason, expected) in [("cfu", [0, 5, 5]), ("cfb", [0, 5, 5]), ("cfnr", [5, 0, 5])] {
+    let (early, late) = ([0, 10, 10], [10, 0, 10]);
+    for (reason, expected) in [("cfu", early), ("cfb", early), ("cfnr", late)] {
         let line = format!("divert call 0 {reason} to 3 at 9");
         let codes = [fresh, RINGS, &active].map(|before| code(before, &line));
         assert_eq!(codes, expected, "{reason}");
     }
-    assert_eq!(code(REQUESTED, "divert call 0 cfnr to 3 at 9"), 5);
-    assert_eq!(code(&granted(), "divert call 0 cfnr to 3 at 9"), 5);
+    assert_eq!(code(REQUESTED, "divert call 0 cfnr to 3 at 9"), 11);
+    assert_eq!(code(&granted(), "divert call 0 cfnr to 3 at 9"), 11);
+    // The reason fits no better for the open request.
+    assert_eq!(code(REQUESTED, "divert call 0 cfu to 3 at 9"), 10);
 }
 
 #[test]
@@ -99,17 +102,17 @@ fn a_no_reply_grant_is_cleared_by_a_failed_leg_and_may_divert_again() {
 
 #[test]
 fn a_failed_leg_needs_a_no_reply_grant() {
-    for before in [RINGS, REQUESTED, EARLY, EARLY_GRANT] {
-        assert_eq!(code(before, "leg-failed call 0 at 9"), 5);
+    for (before, expected) in [(RINGS, 11), (REQUESTED, 11), (EARLY, 10), (EARLY_GRANT, 10)] {
+        assert_eq!(code(before, "leg-failed call 0 at 9"), expected);
     }
 }
 
 #[test]
 fn an_early_grant_ends_with_the_call_only() {
-    for line in ["alerted", "answer", "leg-failed"] {
-        assert_eq!(code(EARLY_GRANT, &format!("{line} call 0 at 9")), 5);
+    for (line, expected) in [("alerted", 11), ("answer", 11), ("leg-failed", 10)] {
+        assert_eq!(code(EARLY_GRANT, &format!("{line} call 0 at 9")), expected);
     }
-    assert_eq!(code(EARLY_GRANT, "error call 0 id 65535 at 9"), 5);
+    assert_eq!(code(EARLY_GRANT, "error call 0 id 65535 at 9"), 11);
     for line in ["end call 0 at 9", "far-end call 0 at 9"] {
         assert!(record(&join(EARLY_GRANT, line), 0).is_free());
     }
@@ -117,11 +120,11 @@ fn an_early_grant_ends_with_the_call_only() {
 
 #[test]
 fn the_state_is_tested_before_the_identifier_and_the_limit() {
-    assert_eq!(code(RINGS, "result call 0 id 4 at 9"), 5);
+    assert_eq!(code(RINGS, "result call 0 id 4 at 9"), 11);
     assert_eq!(code(REQUESTED, "result call 0 id 4 at 9"), 6);
     assert_eq!(code(REQUESTED, "error call 0 id 4 at 9"), 6);
     let deepest = "open incoming 9 diverted cfu counter 15 at 1";
-    assert_eq!(code(deepest, "divert call 0 cfnr to 3 at 9"), 5);
+    assert_eq!(code(deepest, "divert call 0 cfnr to 3 at 9"), 10);
     assert_eq!(code(deepest, "divert call 0 cfu to 3 at 9"), 7);
 }
 

@@ -13,10 +13,10 @@ fn after(before: &str, line: &str) -> String {
 }
 
 #[test]
-fn a_reroute_on_a_missing_leg_2_is_5_also_in_active() {
-    for before in ["open outgoing 101 at 1", RINGING, ACTIVE] {
+fn a_reroute_on_a_missing_leg_2_is_refused_also_in_active() {
+    for (before, code) in [("open outgoing 101 at 1", 10), (RINGING, 11), (ACTIVE, 10)] {
         let line = "reroute call 0 leg 2 cfu counter 1 id 4 to 3 at 9";
-        assert_eq!(after(before, line), "5 - - - - - -");
+        assert_eq!(after(before, line), format!("{code} - - - - - -"));
     }
 }
 
@@ -64,9 +64,9 @@ fn dli1_and_facility_on_leg_1_are_taken_in_invoked() {
     assert_eq!(last(&told), "0 0 2 - - - -");
     let facility = "message call 0 leg 1 facility dli3-allowed at 5";
     assert_eq!(after(&told, facility), "0 0 - 9 - - -");
-    assert_eq!(after(INVOKED, facility), "5 - - - - - -");
+    assert_eq!(after(INVOKED, facility), "11 - - - - - -");
     let on_leg_2 = "message call 0 leg 2 facility dli3-allowed at 5";
-    assert_eq!(after(&told, on_leg_2), "5 - - - - - -");
+    assert_eq!(after(&told, on_leg_2), "10 - - - - - -");
 }
 
 #[test]
@@ -123,7 +123,7 @@ fn release_on_leg_2_reports_the_failed_leg() {
     let release = "message call 0 leg 2 release-complete at 5";
     assert_eq!(after(INVOKED, release), "0 0 - - - - F1");
     assert_eq!(record(&join(INVOKED, release), 0), record(RINGING, 0));
-    assert_eq!(after(RINGING, release), "5 - - - - - -");
+    assert_eq!(after(RINGING, release), "11 - - - - - -");
 }
 
 #[test]
@@ -198,7 +198,7 @@ fn active_takes_a_release_only() {
         "message call 0 leg 1 alerting at 4",
         "message call 0 leg 1 connect at 4",
     ] {
-        assert_eq!(after(lines, line), "5 - - - - - -", "{line}");
+        assert_eq!(after(lines, line), "10 - - - - - -", "{line}");
     }
     let release = "message call 0 leg 1 release-complete at 4";
     assert_eq!(after(lines, release), "0 0 - - - - -");

@@ -99,7 +99,7 @@ fn a_result_or_error_ends_the_wait_and_prints_nothing() {
             let line = reply(sort, role, identifier(sort), 2);
             assert_eq!(panel.line(&line), "0 - - - - - -");
             assert_eq!(panel.station, left);
-            assert_eq!(panel.line(&line), "5 - - - - - -");
+            assert_eq!(panel.line(&line), "11 - - - - - -");
             let again = panel.run(&format!("{words} at 3"));
             assert_eq!((again.code, again.identifier), (0, Some(4)));
         }
@@ -107,12 +107,12 @@ fn a_result_or_error_ends_the_wait_and_prints_nothing() {
 }
 
 #[test]
-fn none_pending_is_5_and_another_identifier_6() {
+fn none_pending_is_11_and_another_identifier_6() {
     for role in ["result", "error"] {
         for sort in 0..SORTS {
             let mut fresh = Panel::new();
             for id in [0, 1, 65_535] {
-                assert_eq!(fresh.run(&reply(sort, role, id, 2)).code, 5);
+                assert_eq!(fresh.run(&reply(sort, role, id, 2)).code, 11);
             }
             let mut panel = asked([1; SORTS]);
             for id in [0, 4, 65_534, identifier((sort + 1) % SORTS)] {
@@ -147,7 +147,7 @@ fn timers_end_at_their_length_and_not_before() {
         assert_eq!(panel.line(&due), "0 - - - - - -");
         // "expiry equal to a reject": a late answer meets none pending.
         let late = reply(sort, "result", 65_535, 1000 + length);
-        assert_eq!(panel.run(&late).code, 5);
+        assert_eq!(panel.run(&late).code, 11);
     }
 }
 

@@ -85,7 +85,7 @@ fn fields_come_before_the_state_and_the_time_before_them() {
     second.time = 4;
     assert_eq!(panel.take(&second).code, 2);
     let mut late = event("interrogation result id 0 to 8 at 5");
-    assert_eq!(panel.take(&late).code, 5);
+    assert_eq!(panel.take(&late).code, 11);
     late.second = 0;
     assert_eq!(panel.take(&late).code, 3);
     panel.station.remote.enabled = 2;

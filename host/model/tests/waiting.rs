@@ -116,13 +116,16 @@ fn fifteen_wait_and_a_sixteenth_gets_the_error() {
 }
 
 #[test]
-fn outside_invoked_an_invoke_on_leg_2_is_5() {
+fn outside_invoked_an_invoke_on_leg_2_is_refused() {
     let alerts = "message call 0 leg 2 alerting at 4";
     let handed = join(&waiting(3), alerts);
     let dropped = join(&waiting(3), "message call 0 leg 2 release-complete at 4");
     let connected = join(&waiting(3), "message call 0 leg 1 connect at 4");
-    for before in [handed, dropped, connected, DIVERT.to_string()] {
-        assert_eq!(after(&before, ON), "5 - - - - - -");
+    for before in [handed, dropped] {
+        assert_eq!(after(&before, ON), "11 - - - - - -");
+    }
+    for before in [connected, DIVERT.to_string()] {
+        assert_eq!(after(&before, ON), "10 - - - - - -");
     }
 }
 
@@ -134,11 +137,11 @@ fn what_waits_stays_over_events_that_leave_it_alone() {
         ("clock at 99999", "0 - - - - - -"),
         (
             "message call 0 leg 1 facility dli3-allowed at 4",
-            "5 - - - - - -",
+            "11 - - - - - -",
         ),
         (
             "message call 0 leg 2 facility dli3-allowed at 4",
-            "5 - - - - - -",
+            "10 - - - - - -",
         ),
         ("result call 0 id 7 at 4", "4 - - - - - -"),
         ("error call 0 id 7 at 4", "4 - - - - - -"),

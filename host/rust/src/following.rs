@@ -159,7 +159,7 @@ fn each_request_ends() {
             panel.meet(5, ask(sort, Forward::Cfu)).expect("done");
             for other in Sort::ALL.into_iter().filter(|&other| other != sort) {
                 let told = panel.meet(5, error(other, 65535));
-                assert_eq!(told, Err(Refusal::NotInState));
+                assert_eq!(told, Err(Refusal::NotInServiceState));
             }
             for foreign in [0, 1, 65534] {
                 let told = panel.meet(5, result(sort, foreign));

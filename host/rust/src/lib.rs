@@ -49,6 +49,8 @@ mod kinds;
 mod plan;
 mod raw;
 mod refusal;
+#[cfg(test)]
+mod refused;
 mod remote;
 mod station;
 #[cfg(test)]

@@ -7,6 +7,27 @@ open_numbers! {
     /// Why an event is refused, in the order in which it is tested. Its text
     /// says what to do; table and station are as they were, also where it is one
     /// that is not known here.
+    ///
+    /// Earlier archives had 5, `NotInState`, where 10 and 11 stand: it was split, and is no
+    /// longer given. A host names both in its place,
+    ///
+    /// ```
+    /// # use whipsail::Refusal;
+    /// fn is_dropped(refusal: Refusal) -> bool {
+    ///     matches!(refusal, Refusal::NotInBasicState | Refusal::NotInServiceState)
+    /// }
+    /// # assert!(is_dropped(Refusal::of(10)) && is_dropped(Refusal::of(11)));
+    /// # assert_eq!(Refusal::of(5), Refusal::Other(5));
+    /// ```
+    ///
+    /// and one that has the old name does not compile:
+    ///
+    /// ```compile_fail,E0599
+    /// # use whipsail::Refusal;
+    /// fn is_dropped(refusal: Refusal) -> bool {
+    ///     matches!(refusal, Refusal::NotInState)
+    /// }
+    /// ```
     Refusal {
         /// The table is empty, over 64 records or not sound, or the station is not:
         /// its limit is not 1 to 15, its next identifier is 0
@@ -20,9 +41,19 @@ open_numbers! {
         NotWellMade = 3,
         /// The call is past the table's end, free, or of the other direction.
         NoSuchCall = 4,
-        /// The call's state does not take the event; of an answer from another panel:
-        /// no request of its sort is pending.
-        NotInState = 5,
+        /// Too early or too late: no call in this basic state
+        /// ([`Call::basic`](crate::Call::basic)) takes the event, however its
+        /// diversion stands. So `Alerted` once it rings, `LegFailed` before that, `Result`
+        /// once it is answered, `Divert` for the reason of another state; a FACILITY on
+        /// leg 2 in every state.
+        NotInBasicState = 10,
+        /// The basic state takes the event, but the call's diversion does not: already
+        /// asked or already granted (`Divert`), being diverted away by cfu or cfb
+        /// (`Alerted`, `Answered`), no request open (`Result`, `Error`) or no cfnr granted
+        /// (`LegFailed`), no forwarded leg (leg 2), no diversion told yet (FACILITY). Of an
+        /// answer from another panel: no request of its sort is pending. What an open
+        /// request forbids may be taken after it.
+        NotInServiceState = 11,
         /// A result or error is not that of the call's open request, or of the pending
         /// one of its sort.
         OtherIdentifier = 6,
@@ -51,8 +82,11 @@ impl Refusal {
             Refusal::NoSuchCall => {
                 "no such call: past the table's end, free, or of the other direction; look up which record is meant"
             }
-            Refusal::NotInState => {
-                "the call's state does not take this event, or no request of this sort is pending: look at the record or the station, and drop the event"
+            Refusal::NotInBasicState => {
+                "too early or too late: no call in this state (not yet ringing, ringing or answered) takes this event, and none ever a FACILITY on leg 2: look at the record, and drop the event"
+            }
+            Refusal::NotInServiceState => {
+                "the call's state fits, but its diversion (already asked, already granted, being diverted away, no request open or granted, no forwarded leg, no diversion told yet) does not, or no request of this sort is pending: look at the record or the station, and drop the event"
             }
             Refusal::OtherIdentifier => {
                 "not the identifier of the call's open request, or of the pending one of this sort: drop this late or foreign answer"
@@ -67,7 +101,7 @@ impl Refusal {
                 "a request of this sort is pending: wait for its answer, or for the clock event that ends it"
             }
             Refusal::Other(_) => {
-                "a refusal of a later archive, not known here: nothing has changed; drop the event, and report the number"
+                "a refusal of another archive, not known here: nothing has changed; drop the event, and report the number"
             }
         }
     }

@@ -1,7 +1,6 @@
 //! The wrapper's own tests; `host/compare` holds it to the model.
 
 use crate::*;
-use std::string::ToString;
 use std::vec::Vec;
 
 const NINE: &[u8] = include_bytes!("../../vectors/nine.bin");
@@ -84,56 +83,6 @@ fn every_done_event_of_a_call_names_it() {
         }
     }
     assert!(named > 100 && idle > 0, "{named} {idle}");
-}
-
-#[test]
-fn every_refusal_and_its_text() {
-    let mut table = [Call::FREE; 1];
-    let mut station = Station::fresh(1, true, true).expect("a limit");
-    let mut refused = |time, kind| {
-        let (before, stood) = (table, station);
-        let told = station.step(&mut table, &Event::at(time, kind));
-        if told.is_err() {
-            assert_eq!((table, station), (before, stood));
-        }
-        told.err().map(Refusal::number)
-    };
-    assert_eq!(refused(5, incoming(102)), None);
-    assert_eq!(refused(4, Kind::Clock), Some(2));
-    assert_eq!(refused(5, Kind::Raw([99; 16])), Some(3));
-    assert_eq!(refused(5, Kind::Alerted { call: 1 }), Some(4));
-    assert_eq!(refused(5, Kind::LegFailed { call: 0 }), Some(5));
-    assert_eq!(refused(5, divert(0)), None);
-    let foreign = Kind::Result {
-        call: 0,
-        identifier: 7,
-    };
-    assert_eq!(refused(6, foreign), Some(6));
-    assert_eq!(refused(6, incoming(103)), Some(8));
-    assert_eq!(refused(7, Kind::FarEnd { call: 0 }), None);
-    let diverted = Kind::OpenDiverted {
-        own: number(102),
-        reason: Reason::Cfu,
-        counter: 1,
-        diverting: None,
-        original: None,
-    };
-    assert_eq!(refused(7, diverted), None);
-    assert_eq!(refused(7, divert(0)), Some(7));
-    let check = Kind::Ask {
-        panel: number(9),
-        ask: Ask::Check,
-    };
-    assert_eq!(refused(8, check), None);
-    assert_eq!(refused(8, check), Some(9));
-    let clock = Event::at(9, Kind::Clock);
-    assert_eq!(station.step(&mut [], &clock), Err(Refusal::NotSound));
-    for number in 1..=9 {
-        let refusal = Refusal::of(number);
-        let said: &dyn core::error::Error = &refusal;
-        assert!(said.to_string().starts_with(&std::format!("{number}: ")));
-        assert_eq!(std::format!("{refusal:?}"), said.to_string());
-    }
 }
 
 #[test]

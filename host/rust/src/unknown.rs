@@ -26,7 +26,7 @@ fn unnamed<T>(of: fn(u8) -> T, other: fn(&T) -> bool, number: fn(T) -> u8) -> us
 #[test]
 fn every_number_is_kept() {
     let other = |refusal: &Refusal| matches!(refusal, Refusal::Other(_));
-    assert_eq!(unnamed(Refusal::of, other, Refusal::number), 256 - 9);
+    assert_eq!(unnamed(Refusal::of, other, Refusal::number), 256 - 10);
     let other = |reason: &Reason| matches!(reason, Reason::Other(_));
     assert_eq!(unnamed(Reason::of, other, Reason::number), 256 - 4);
     let other = |ending: &Ending| matches!(ending, Ending::Other(_));
@@ -39,11 +39,11 @@ fn no_code_but_0_is_done() {
         let told = Answer::read(&answered(code));
         assert_eq!(told.err().map(Refusal::number), (code != 0).then_some(code));
     }
-    assert_eq!(
-        Answer::read(&answered(10)),
-        Err(Refusal::Other(10)),
-        "\"not in this state\", split"
-    );
+    // no longer given, and not yet
+    for code in [5, 12] {
+        let told = Answer::read(&answered(code));
+        assert_eq!(told, Err(Refusal::Other(code)));
+    }
 }
 
 #[test]

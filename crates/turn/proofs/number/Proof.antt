@@ -2,7 +2,7 @@
 use mathlib.Core.Path.{_≡_, _∙_}
 use borrow.Author.Needs.{needs}
 use Rattle.ground.proofs.Ways.{ways, asked}
-use Rattle.turn.proofs.Numbered.{later, number-later}
+use Rattle.turn.proofs.Numbered.{later, by-state, past-state, number-later}
 use Rattle.turn.proofs.number.Statement.{statement}
 use Rattle.turn.proofs.number.Tie as tie
 
@@ -21,25 +21,29 @@ returns-2 c =
 returns-3 : tie.Need-returns-3
 returns-3 c =
     let a = c .before .before .before .before .before .before .before .before .args in
-    let here : 5 ≡ later (a .s) (a .e) (a .seen) = rw (← c .before .before .before .wrong-call .ensures, ← c .before .before .before .before .before .well-made .ensures, c .before .before .before .before .if1 .left, c .before .before .if2 .left) (search asked depth 12) in
+    let state = by-state (a .seen .call) (a .e) _ (c .before .state-number .ensures) _ (c .if3 .taken) in
+    let here : c .before .state-number .result ≡ later (a .s) (a .e) (a .seen) = rw (← c .before .before .before .wrong-call .ensures, ← c .before .before .before .before .before .well-made .ensures, c .before .before .before .before .if1 .left, c .before .before .if2 .left) state in
     here ∙ number-later (a .s) (a .e) (a .seen) _ (c .before .before .before .before .before .before .before .before .pre)
 
 returns-4 : tie.Need-returns-4
 returns-4 c =
     let a = c .before .before .before .before .before .before .before .before .before .before .args in
-    let here : 6 ≡ later (a .s) (a .e) (a .seen) = rw (← c .before .before .before .before .before .wrong-call .ensures, ← c .before .before .before .before .before .before .before .well-made .ensures, c .before .before .before .before .before .before .if1 .left, c .before .before .before .before .if2 .left) (search asked depth 12) in
+    let past = past-state (a .seen .call) (a .e) _ (c .before .before .before .state-number .ensures) (c .before .before .if3 .left) in
+    let here : 6 ≡ later (a .s) (a .e) (a .seen) = rw (← c .before .before .before .before .before .wrong-call .ensures, ← c .before .before .before .before .before .before .before .well-made .ensures, c .before .before .before .before .before .before .if1 .left, c .before .before .before .before .if2 .left, past .0, past .1) (search asked depth 12) in
     here ∙ number-later (a .s) (a .e) (a .seen) _ (c .before .before .before .before .before .before .before .before .before .before .pre)
 
 returns-5 : tie.Need-returns-5
 returns-5 c =
     let a = c .before .before .before .before .before .before .before .before .before .before .before .before .args in
-    let here : 7 ≡ later (a .s) (a .e) (a .seen) = rw (← c .before .before .before .before .before .before .before .wrong-call .ensures, ← c .before .before .before .before .before .before .before .before .before .well-made .ensures, c .before .before .before .before .before .before .before .before .if1 .left, c .before .before .before .before .before .before .if2 .left) (search asked depth 12) in
+    let past = past-state (a .seen .call) (a .e) _ (c .before .before .before .before .before .state-number .ensures) (c .before .before .before .before .if3 .left) in
+    let here : 7 ≡ later (a .s) (a .e) (a .seen) = rw (← c .before .before .before .before .before .before .before .wrong-call .ensures, ← c .before .before .before .before .before .before .before .before .before .well-made .ensures, c .before .before .before .before .before .before .before .before .if1 .left, c .before .before .before .before .before .before .if2 .left, past .0, past .1) (search asked depth 12) in
     here ∙ number-later (a .s) (a .e) (a .seen) _ (c .before .before .before .before .before .before .before .before .before .before .before .before .pre)
 
 returns-6 : tie.Need-returns-6
 returns-6 c =
     let a = c .before .before .before .before .before .before .before .before .before .before .before .before .args in
-    let here : 0 ≡ later (a .s) (a .e) (a .seen) = rw (← c .before .before .before .before .before .before .before .wrong-call .ensures, ← c .before .before .before .before .before .before .before .before .before .well-made .ensures, c .before .before .before .before .before .before .before .before .if1 .left, c .before .before .before .before .before .before .if2 .left) (search asked depth 12) in
+    let past = past-state (a .seen .call) (a .e) _ (c .before .before .before .before .before .state-number .ensures) (c .before .before .before .before .if3 .left) in
+    let here : 0 ≡ later (a .s) (a .e) (a .seen) = rw (← c .before .before .before .before .before .before .before .wrong-call .ensures, ← c .before .before .before .before .before .before .before .before .before .well-made .ensures, c .before .before .before .before .before .before .before .before .if1 .left, c .before .before .before .before .before .before .if2 .left, past .0, past .1) (search asked depth 12) in
     here ∙ number-later (a .s) (a .e) (a .seen) _ (c .before .before .before .before .before .before .before .before .before .before .before .before .pre)
 
 pub number-spec : {M : Type 1} → statement M

@@ -1,9 +1,10 @@
 //! Counts what the generators meet: answers by kind, the shapes of done
 //! answers, identifiers passed over, what happens to calls in Invoked by how
-//! many wait, and the sentences that damage breaks.
+//! many wait, where events are 10 and 11, and the sentences that damage
+//! breaks.
 #![forbid(unsafe_code)]
 
-use model::{codes, lent, profile, random::Random, sound, station_sound, step, ways};
+use model::{cells, codes, lent, profile, random::Random, sound, station_sound, step, ways};
 use model::{Answer, Event, Record, Station};
 use std::collections::BTreeMap;
 
@@ -15,10 +16,11 @@ const LENT_EVENTS: usize = 100;
 /// Counts by answer number (rows) and kind (columns; the first is any other).
 #[derive(Default)]
 struct Counts {
-    codes: [[u32; 32]; 10],
+    codes: [[u32; 32]; 12],
     shapes: BTreeMap<String, u32>,
     passed_over: u32,
     ways: ways::Ways,
+    cells: cells::Cells,
 }
 
 impl Counts {
@@ -47,6 +49,7 @@ impl Counts {
             let before = walk.table.clone();
             let (event, answer) = walk.advance();
             self.ways.add(&before, &event, &answer);
+            self.cells.add(&before, &event, &answer);
             self.add(next, &event, &answer);
         }
     }
@@ -55,13 +58,18 @@ impl Counts {
         println!("{name}: answer by any other kind and 1 to 31");
         for (code, row) in self.codes.iter().enumerate() {
             let cells: String = row.iter().map(|count| format!("{count:>6}")).collect();
-            println!("  {code} {cells}");
+            println!("  {code:>2} {cells}");
         }
         println!("  open identifiers passed over: {}", self.passed_over);
         println!("  in Invoked, with 1, 2 to 14 and 15 waiting");
         for name in ways::OUT.iter().chain(&ways::WITHIN) {
             let cells = self.ways.of(name).map(|count| format!("{count:>7}"));
             println!("  {} {name}", cells.concat());
+        }
+        println!("  10 and 11 by sort of event and basic state");
+        for cell in cells::refused() {
+            let (name, basic, code) = cell;
+            println!("  {:>7} {code} {name} in {basic}", self.cells.of(cell));
         }
         for (shape, count) in &self.shapes {
             println!("  {count:>7} {shape}");
@@ -107,6 +115,7 @@ fn cases() {
         let answer = step(&mut case.table, &mut case.station, &case.event);
         counts.add(next, &case.event, &answer);
         counts.ways.add(&before, &case.event, &answer);
+        counts.cells.add(&before, &case.event, &answer);
     }
     counts.print("lent cases");
     println!("sentences broken alone");
