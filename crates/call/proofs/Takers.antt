@@ -1,5 +1,5 @@
 -- Document 02, Eight: for each event and each basic state that the table leaves to it, a sound record that takes it. Assumes nothing.
-use Prim.Native.Nat.{ℕ, _≤_}
+use Prim.Native.Nat.{ℕ}
 use native.Mathlib.Omega.{arith}
 use mathlib.Core.Path.{refl, sym}
 use mathlib.Core.Bool.{true, not, _&&_, _||_}
@@ -12,13 +12,14 @@ use Rattle.event.specs.declared.Event.{Event}
 use Rattle.event.specs.Remote.{ofRemote}
 use Rattle.event.specs.WellMade.{callMade, wellMade}
 use Rattle.event.specs.Kinds.{cfu, cfnr, withNumber, facility, releaseComplete, onLeg2, ofIncoming, ofOutgoing}
-use Rattle.event.proofs.Groups.{past-incoming, past-outgoing}
+use Rattle.event.proofs.Groups.{of-no-call}
 use Rattle.notice.specs.Notice.{marked, noHistory}
 use Rattle.waits.specs.Waits.{noWaits, waitsFor}
 use Rattle.waits.specs.Soundness.{waitsHold}
 use Rattle.waits.proofs.Kept.{none-unused}
 use Rattle.call.specs.declared.Call.{Call}
 use Rattle.call.specs.Record.{outgoing, incoming, Proceeding, Received, Delivered, Divert, Invoked, Requested, proceeding, received, delivered, active, fits}
+use Rattle.call.specs.Fields.{cdr-is, waiting-is}
 use Rattle.call.specs.Soundness.{divertHolds, soundOutgoing, soundCall}
 use Rattle.call.specs.State.{messageBasicForbids, stateForbids, addressed, Taker, NoneTakes, basicForbids, BasicExact, TakerExact}
 use Rattle.call.proofs.Denials.{denied-first, never}
@@ -84,27 +85,9 @@ toldIn basic = record {
   waiting = noWaits;
 }
 
--- one with a forwarded leg
+-- one with a forwarded leg too
 abbrev withLeg2 : Call
-withLeg2 = record {
-  direction = outgoing;
-  basic = Delivered;
-  cdo = 0;
-  cdr = Invoked;
-  cds = 0;
-  cdf = 0;
-  granted = 0;
-  counter = 0;
-  start = 0;
-  party = 1;
-  history = noHistory;
-  own = 0;
-  diverting = 0;
-  original = 0;
-  identifier = 0;
-  reason = 0;
-  waiting = waitsFor (record { reason = cfnr; option = withNumber; number = 1 });
-}
+withLeg2 = waiting-is (waitsFor (record { reason = cfnr; option = withNumber; number = 1 })) (cdr-is Invoked (toldIn Delivered))
 
 ruleset joins = (and-l, and-r, and-i, from-zero, trivial, none-unused)
 
@@ -236,8 +219,8 @@ module _ (last : ℕ) (c : Call) (e : Event) (h : T (soundCall last c)) (a : T (
 pub far-takes : (c : Call) (e : Event) → T (ofRemote e) → T (not (stateForbids c e)) × T (not (basicForbids c e))
 unfolding stateForbids basicForbids
 far-takes c e t =
-    let k : 16 ≤ e .kind = leb→le 16 (e .kind) (and-l (leb 16 (e .kind)) (leb (e .kind) 31) t) in
-    rw (past-incoming e (omega arith) (λ q. omega (arith, q)), past-outgoing e (omega arith)) (tt, tt)
+    let n = of-no-call e (leb→le 16 (e .kind) (and-l (leb 16 (e .kind)) (leb (e .kind) 31) t)) in
+    rw (n .incoming, n .outgoing) (tt, tt)
 
 by-role : (e : Event) → T (wellMade e) → {P : Type 0} → (T (ofRemote e) → P) → (T (callMade e) → P) → P
 unfolding wellMade

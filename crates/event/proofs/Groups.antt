@@ -7,7 +7,7 @@ use borrow.Author.Tests.{le-leb, lt-leb, ne-eqb}
 use native.Mathlib.Omega.{arith}
 use Rattle.ground.proofs.Walks.{and-false}
 use Rattle.event.specs.declared.Event.{Event}
-use Rattle.event.specs.Kinds.{opens, ofIncoming, ofOutgoing}
+use Rattle.event.specs.Kinds.{opens, ofIncoming, ofOutgoing, diverts, answersRequest, ends}
 
 -- a number within two bounds, beneath them and beyond them
 within : (a b k : ℕ) → a ≤ k → k ≤ b → leb a k && leb k b ≡ true
@@ -18,6 +18,15 @@ beneath a b k p = simp (lt-leb a k p)
 
 beyond : (a b k : ℕ) → b < k → leb a k && leb k b ≡ false
 beyond a b k p = simp (lt-leb k b p, and-false)
+
+-- an event that names no call and opens none
+pub record OfNoCall (e : Event) : Type 0 where
+  pub opens : opens e ≡ false
+  pub incoming : ofIncoming e ≡ false
+  pub outgoing : ofOutgoing e ≡ false
+  pub diverts : diverts e ≡ false
+  pub answers : answersRequest e ≡ false
+  pub ends : ends e ≡ false
 
 module _ (e : Event) where
   pub opener : 1 ≤ e .kind → e .kind < 4 → opens e ≡ true
@@ -49,3 +58,14 @@ module _ (e : Event) where
 
   pub past-outgoing : 15 ≤ e .kind → ofOutgoing e ≡ false
   past-outgoing p = beyond 12 14 (e .kind) p
+
+  -- kinds 16 to 31
+  pub of-no-call : 16 ≤ e .kind → OfNoCall e
+  of-no-call h = record {
+    opens = no-opener (omega arith);
+    incoming = past-incoming (omega arith) (λ q. omega (arith, q));
+    outgoing = past-outgoing (omega arith);
+    diverts = ne-eqb (e .kind) 6 (λ q. omega (arith, q));
+    answers = simp (ne-eqb (e .kind) 7 (λ q. omega (arith, q)), ne-eqb (e .kind) 8 (λ q. omega (arith, q)));
+    ends = ne-eqb (e .kind) 11 (λ q. omega (arith, q));
+  }

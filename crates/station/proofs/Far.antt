@@ -5,7 +5,7 @@ use mathlib.Core.Path.{_≡_, refl, ap, _∙_}
 use mathlib.Core.Bool.{true, false, not, _&&_}
 use mathlib.Core.List.{List, [], _∷_}
 use lib.Dec.{T, leb, eqb, eqb·suc-zero, leb→le, T-not}
-use borrow.Author.Tests.{le-leb, lt-leb, lt-ltb, le-ltb, leb-true, ne-eqb}
+use borrow.Author.Tests.{le-leb, lt-ltb, le-ltb, leb-true}
 use lib.ListN.{length}
 use Rattle.ground.specs.Choice.{when_then_else_}
 use Rattle.ground.proofs.Bools.{and-l, and-r, is-true, is-false, from-true, by-cases, when-has}
@@ -14,6 +14,7 @@ use Rattle.event.specs.declared.Event.{Event}
 use Rattle.event.specs.Kinds.{clock}
 use Rattle.event.specs.Remote.{receives, ofRemote, remoteFields}
 use Rattle.event.specs.WellMade.{wellMade}
+use Rattle.event.proofs.Groups.{of-no-call}
 use Rattle.call.specs.declared.Call.{Call}
 use Rattle.call.specs.State.{basicForbids, stateForbids}
 use Rattle.remote.specs.declared.Remote.{Remote}
@@ -56,21 +57,19 @@ pub far-numbers : FarNumbers
 unfolding refusal refusalOnSound wellMade basicForbids stateForbids remoteRefusal
 far-numbers s calls e h l t f =
     let a : 16 ≤ e .kind = search (and-l, leb→le) in
+    let w = of-no-call e a in
     code-refusal s calls e
     ∙ simp (
       is-true (sound s calls) h,
       le-ltb (e .time) (s .last) l,
       is-true (ofRemote e) t,
       is-true (remoteFields e) f,
-      lt-leb (e .kind) 3 (omega arith),
-      lt-leb (e .kind) 9 (omega arith),
-      lt-leb (e .kind) 14 (omega arith),
-      and-false,
-      ne-eqb (e .kind) 15 (λ q. omega arith),
-      ne-eqb (e .kind) 11 (λ q. omega arith),
-      ne-eqb (e .kind) 6 (λ q. omega arith),
-      ne-eqb (e .kind) 7 (λ q. omega arith),
-      ne-eqb (e .kind) 8 (λ q. omega arith),
+      w .opens,
+      w .incoming,
+      w .outgoing,
+      w .diverts,
+      w .answers,
+      w .ends,
     )
 
 -- a done event of these kinds: what is known of it

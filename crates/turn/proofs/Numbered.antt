@@ -10,7 +10,7 @@ use lib.ListN.{length}
 use Rattle.ground.specs.Choice.{when_then_else_}
 use Rattle.ground.specs.Lists.{first}
 use Rattle.ground.proofs.Bools.{by-cases, upheld}
-use Rattle.ground.proofs.Walks.{both, and-false, or-false}
+use Rattle.ground.proofs.Walks.{both, or-false}
 use Rattle.event.specs.declared.Event.{Event}
 use Rattle.event.specs.Kinds.{opens, ofIncoming, ofOutgoing, ends, clock}
 use Rattle.event.specs.Remote.{ofRemote, remoteFields}
@@ -22,7 +22,7 @@ use Rattle.remote.specs.Rules.{noneWaits, remoteRefusal}
 use Rattle.station.specs.declared.Station.{Station}
 use Rattle.station.specs.Table.{at}
 use Rattle.station.specs.Refusals.{early, illMade, otherIdentifier, foreignAnswer, overLimit, pendingAlready, refusalOnSound}
-use Rattle.event.proofs.Groups.{opener, no-opener, no-incoming, no-outgoing}
+use Rattle.event.proofs.Groups.{of-no-call, opener, no-opener, no-incoming, no-outgoing}
 use Rattle.turn.specs.declared.Seen.{Seen}
 use Rattle.turn.specs.Turn.{beyond, noRecord, numberOf, farNumber}
 use Rattle.turn.proofs.Sorts.{kind-low, far-made, names}
@@ -107,20 +107,8 @@ module _ (s : Station) (e : Event) (far : Bool) (c : Call) (full : Bool) where
       pub numbers-far : ofRemote e ≡ true → numbers s e far c full ≡ remoteRefusal (s .remote) e
       unfolding basicForbids stateForbids remoteRefusal
       numbers-far o =
-          let a : 16 ≤ e .kind = leb-true 16 (e .kind) (both (leb 16 (e .kind)) (leb (e .kind) 31) o .0) in
-          simp (
-            le-ltb (e .time) (s .last) h,
-            w,
-            lt-leb (e .kind) 3 (omega arith),
-            lt-leb (e .kind) 9 (omega arith),
-            lt-leb (e .kind) 14 (omega arith),
-            and-false,
-            ne-eqb (e .kind) 15 (λ q. omega arith),
-            ne-eqb (e .kind) 11 (λ q. omega arith),
-            ne-eqb (e .kind) 6 (λ q. omega arith),
-            ne-eqb (e .kind) 7 (λ q. omega arith),
-            ne-eqb (e .kind) 8 (λ q. omega arith),
-          )
+          let n = of-no-call e (leb-true 16 (e .kind) (both (leb 16 (e .kind)) (leb (e .kind) 31) o .0)) in
+          simp (le-ltb (e .time) (s .last) h, w, n .opens, n .incoming, n .outgoing, n .diverts, n .answers, n .ends)
 
 -- the code's order, from 3 on: where the event finds no record of its own, its kind tells the number
 abbrev pub later : Station → Event → Seen → ℕ
