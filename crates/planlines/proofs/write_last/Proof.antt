@@ -1,9 +1,9 @@
 use native.Mathlib.Omega.{arith}
 use borrow.Author.Needs.{needs}
 use Rattle.printout.proofs.Digits.{decimal-within}
-use Rattle.plantext.proofs.Words.{last-written}
-use Rattle.plantext.proofs.answer.write_last.Statement.{statement}
-use Rattle.plantext.proofs.answer.write_last.Tie as tie
+use Rattle.planlines.proofs.Words.{last-written}
+use Rattle.planlines.proofs.write_last.Statement.{statement}
+use Rattle.planlines.proofs.write_last.Tie as tie
 
 put-requires : tie.Need-put-requires
 put-requires c κs = let a = c .before .before .before .before .before .before .args in omega (arith, decimal-within 2 (a .code) (omega arith))

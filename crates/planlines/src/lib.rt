@@ -1,9 +1,9 @@
-// The answer in lines, written into a lent buffer.
+// The lines of an answer, written into a lent buffer: what the rehearsal of a plan says, or which line is no part of a plan.
 ghost use Prim.Native.Nat.{_+_, _*_, _≤_};
 ghost use lib.ListN.{length};
 ghost use Rattle.printout.specs.Written.{Written};
 ghost use Rattle.rehearsal.specs.Plan.{panelsOf};
-ghost use Rattle.plantext.specs.Lines.{endingWord, reasonWord, stepText, way, lastText, outcomeText, answerText, rehearsalText, faultText};
+ghost use Rattle.planlines.specs.Lines.{endingWord, reasonWord, stepText, way, lastText, outcomeText, answerText, rehearsalText, faultText};
 use rehearsal::Rehearsed;
 
 // Bytes in a row.

@@ -12,7 +12,7 @@ use Rattle.printout.proofs.Digits.{decimal-within}
 use Rattle.printout.proofs.Texts.{and-then, in-three}
 use Rattle.rehearsal.specs.declared.Rehearsed.{Rehearsed}
 use Rattle.rehearsal.specs.Plan.{panelsOf}
-use Rattle.plantext.specs.Lines.{endingWord, reasonWord, stepText, way, lastText, outcomeText, answerText, faultText}
+use Rattle.planlines.specs.Lines.{endingWord, reasonWord, stepText, way, lastText, outcomeText, answerText, faultText}
 
 module _ (at : ℕ) (old new : List ℕ) (r n : ℕ) where
   pub word-rings : n ≡ 1 → Written (114 ∷ 105 ∷ 110 ∷ 103 ∷ 115 ∷ []) at old new r → Written (endingWord n) at old new r × (r ≤ at + 5)

@@ -1,10 +1,10 @@
--- `plantext::answer::write_way` meets its contract: each turn writes one forward. Assumes nothing.
+-- `planlines::write_way` meets its contract: each turn writes one forward. Assumes nothing.
 use mathlib.Core.Path.{_∙_}
 use native.Mathlib.Omega.{arith}
 use Rattle.rehearsal.specs.Plan.{panelsOf, next}
-use Rattle.plantext.proofs.Ways.{Underway, underway-start, underway-next, underway-end}
-use Rattle.plantext.proofs.answer.write_way.Statement.{statement}
-use Rattle.plantext.proofs.answer.write_way.Tie as tie
+use Rattle.planlines.proofs.Ways.{Underway, underway-start, underway-next, underway-end}
+use Rattle.planlines.proofs.write_way.Statement.{statement}
+use Rattle.planlines.proofs.write_way.Tie as tie
 
 abbrev Inv-loop : tie.InvT-loop
 Inv-loop out₀ at plan start forwards next₀ panel₀ left₀ out next panel left = Underway (panelsOf plan) start forwards at out₀ out next panel left

@@ -1,9 +1,9 @@
 use native.Mathlib.Omega.{arith}
 use borrow.Author.Needs.{needs}
 use Rattle.printout.proofs.Digits.{decimal-within}
-use Rattle.plantext.proofs.Words.{fault-written}
-use Rattle.plantext.proofs.answer.write_fault.Statement.{statement}
-use Rattle.plantext.proofs.answer.write_fault.Tie as tie
+use Rattle.planlines.proofs.Words.{fault-written}
+use Rattle.planlines.proofs.write_fault.Statement.{statement}
+use Rattle.planlines.proofs.write_fault.Tie as tie
 
 put-bytes-requires-2 : tie.Need-put-bytes-requires-2
 put-bytes-requires-2 c κs =

@@ -1,9 +1,9 @@
 use native.Mathlib.Omega.{arith}
 use borrow.Author.Needs.{needs}
 use Rattle.printout.proofs.Digits.{decimal-within}
-use Rattle.plantext.proofs.Words.{answer-written, refusal-written}
-use Rattle.plantext.proofs.answer.write_answer.Statement.{statement}
-use Rattle.plantext.proofs.answer.write_answer.Tie as tie
+use Rattle.planlines.proofs.Words.{answer-written, refusal-written}
+use Rattle.planlines.proofs.write_answer.Statement.{statement}
+use Rattle.planlines.proofs.write_answer.Tie as tie
 
 returns : tie.Need-returns
 returns c =

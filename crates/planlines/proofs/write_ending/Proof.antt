@@ -1,7 +1,7 @@
 use borrow.Author.Needs.{needs}
-use Rattle.plantext.proofs.Words.{word-rings, word-busy, word-limit}
-use Rattle.plantext.proofs.answer.write_ending.Statement.{statement}
-use Rattle.plantext.proofs.answer.write_ending.Tie as tie
+use Rattle.planlines.proofs.Words.{word-rings, word-busy, word-limit}
+use Rattle.planlines.proofs.write_ending.Statement.{statement}
+use Rattle.planlines.proofs.write_ending.Tie as tie
 
 returns : tie.Need-returns
 returns c =

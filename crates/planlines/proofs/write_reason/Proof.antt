@@ -1,7 +1,7 @@
 use borrow.Author.Needs.{needs}
-use Rattle.plantext.proofs.Words.{word-cfu, word-cfb, word-cfnr}
-use Rattle.plantext.proofs.answer.write_reason.Statement.{statement}
-use Rattle.plantext.proofs.answer.write_reason.Tie as tie
+use Rattle.planlines.proofs.Words.{word-cfu, word-cfb, word-cfnr}
+use Rattle.planlines.proofs.write_reason.Statement.{statement}
+use Rattle.planlines.proofs.write_reason.Tie as tie
 
 returns : tie.Need-returns
 returns c =

@@ -1,9 +1,9 @@
 use native.Mathlib.Omega.{arith}
 use borrow.Author.Needs.{needs}
 use Rattle.printout.proofs.Digits.{decimal-within}
-use Rattle.plantext.proofs.Words.{outcome-written}
-use Rattle.plantext.proofs.answer.write_outcome.Statement.{statement}
-use Rattle.plantext.proofs.answer.write_outcome.Tie as tie
+use Rattle.planlines.proofs.Words.{outcome-written}
+use Rattle.planlines.proofs.write_outcome.Statement.{statement}
+use Rattle.planlines.proofs.write_outcome.Tie as tie
 
 returns : tie.Need-returns
 returns c =

@@ -11,7 +11,7 @@ use Rattle.printout.proofs.Texts.{and-then}
 use Rattle.printout.proofs.Pieces.{unwritten}
 use Rattle.rehearsal.specs.declared.Panel.{Panel}
 use Rattle.rehearsal.specs.Plan.{panelAt, reasonOf, next}
-use Rattle.plantext.specs.Lines.{stepText, way}
+use Rattle.planlines.specs.Lines.{stepText, way}
 
 -- what is written, and the way that is left, make the whole
 pub record Underway (plan : List Panel) (start forwards at : ℕ) (old out : List ℕ) (behind panel left : ℕ) : Type 0 where

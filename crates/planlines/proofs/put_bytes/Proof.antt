@@ -1,12 +1,12 @@
--- `plantext::answer::put_bytes` meets its contract: each turn writes one byte. Assumes nothing.
+-- `planlines::put_bytes` meets its contract: each turn writes one byte. Assumes nothing.
 use Prim.Native.Nat.{_-_, _≤_}
 use mathlib.Core.Path.{_≡_, refl, sym, _∙_}
 use native.Mathlib.Numerals.{add-one}
 use native.Mathlib.Omega.{arith}
 use lib.ListN.{length, length-set}
 use lib.Seq.{paste, paste-zero, paste-suc, take-all}
-use Rattle.plantext.proofs.answer.put_bytes.Statement.{statement}
-use Rattle.plantext.proofs.answer.put_bytes.Tie as tie
+use Rattle.planlines.proofs.put_bytes.Statement.{statement}
+use Rattle.planlines.proofs.put_bytes.Tie as tie
 
 abbrev Inv-loop : tie.InvT-loop
 Inv-loop out₀ at bytes i₀ out i = (i ≤ length bytes) × (length out ≡ length out₀) × (out ≡ paste out₀ at bytes i)
