@@ -104,7 +104,7 @@ fn number_by_kind(s: Station, e: Event, seen: Seen) -> u8
         13 => number(13, s, e, seen),
         14 => number(14, s, e, seen),
         15 => number(15, s, e, seen),
-        16..=31 => follow::remote_refusal(s.remote, e),
+        16..=31 => holding::remote_refusal(s.remote, e),
         _ => 3,
     }
 }
