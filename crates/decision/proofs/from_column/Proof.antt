@@ -1,6 +1,6 @@
 use borrow.Author.Needs.{needs}
-use Rattle.lent.proofs.from_column.Statement.{statement}
-use Rattle.lent.proofs.from_column.Tie as tie
+use Rattle.decision.proofs.from_column.Statement.{statement}
+use Rattle.decision.proofs.from_column.Tie as tie
 
 pub from-column-spec : {M : Type 1} → statement M
 from-column-spec =

@@ -26,9 +26,9 @@ use Rattle.turn.specs.declared.Seen.{Seen}
 use Rattle.turn.specs.declared.Turn.{Turn}
 use Rattle.turn.specs.declared.Turn.the-variants.{Refused, Far, Done}
 use Rattle.turn.specs.Turn.{placeOf, seenIn, turnOf, actedOf, movedOf, decidedOf, stationOn, stationFar}
-use Rattle.lent.specs.declared.Input.{Input}
-use Rattle.lent.specs.declared.Decision.{Decision}
-use Rattle.lent.specs.declared.Pick.{Pick}
+use Rattle.decision.specs.declared.Input.{Input}
+use Rattle.decision.specs.declared.Decision.{Decision}
+use Rattle.decision.specs.declared.Pick.{Pick}
 
 -- refused: no record changes
 abbrev pub unchangedAs : ℕ → Station → Decision

@@ -3,9 +3,9 @@ use mathlib.Core.Path.{refl, sym, _∙_}
 use native.Mathlib.Omega.{arith}
 use borrow.Author.Needs.{needs}
 use Rattle.turn.specs.declared.Turn.the-variants.{Refused, Far, Done}
-use Rattle.lent.proofs.Laws.{by-refusal, by-turn, has-rule, there}
-use Rattle.lent.proofs.decided_on.Statement.{statement}
-use Rattle.lent.proofs.decided_on.Tie as tie
+use Rattle.decision.proofs.Laws.{by-refusal, by-turn, has-rule, there}
+use Rattle.decision.proofs.decided_on.Statement.{statement}
+use Rattle.decision.proofs.decided_on.Tie as tie
 
 returns : tie.Need-returns
 returns c =
