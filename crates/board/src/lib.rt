@@ -8,7 +8,7 @@ ghost use lib.ListN.{length};
 ghost use Rattle.ground.specs.Lists.{first, all};
 ghost use Rattle.notes.specs.Notes.{atLeast, under};
 ghost use Rattle.turn.specs.Turn.{placeOf};
-ghost use Rattle.board.specs.Board.{soundBoard, within};
+ghost use Rattle.board.specs.Board.{startBoard, soundBoard, within};
 use call::Call;
 use event::Event;
 use station::Station;
@@ -18,6 +18,21 @@ pub struct Board {
     pub station: Station,
     pub len: usize,
     pub calls: [Call; 64],
+}
+
+// 64 free records and a fresh station of limit 15 with both marks.
+pub fn start() -> Board
+    ensures { λ r. ⌜ r ≡ startBoard ⌝ }
+{
+    let made = station::fresh(15, 1, 1);
+    let station = made.station;
+    let free = call::free_call();
+    let calls = [free; 64];
+    Board {
+        station: station,
+        len: 64,
+        calls: calls,
+    }
 }
 
 // Table and station are sound: the test behind number 1.

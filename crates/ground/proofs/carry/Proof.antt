@@ -1,12 +1,12 @@
--- `panel::carry` meets its contract: each turn moves one byte. Assumes nothing.
+-- `ground::carry` meets its contract: each turn moves one byte. Assumes nothing.
 use Prim.Native.Nat.{_-_, _≤_}
 use mathlib.Core.Path.{_≡_, refl, _∙_}
 use native.Mathlib.Omega.{arith}
 use lib.ListN.{length, drop, length-set}
 use lib.Seq.{paste, paste-zero}
-use Rattle.panel.proofs.Carried.{carried}
-use Rattle.panel.proofs.carry.Statement.{statement}
-use Rattle.panel.proofs.carry.Tie as tie
+use Rattle.ground.proofs.Carried.{carried}
+use Rattle.ground.proofs.carry.Statement.{statement}
+use Rattle.ground.proofs.carry.Tie as tie
 
 abbrev Inv-loop : tie.InvT-loop
 Inv-loop buffer₀ from count i₀ buffer i = (i ≤ count) × (length buffer ≡ length buffer₀) × (buffer ≡ paste buffer₀ 0 (drop from buffer₀) i)
