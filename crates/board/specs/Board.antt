@@ -16,12 +16,12 @@ use Rattle.station.specs.Table.{sound}
 use Rattle.station.specs.Step.{Outcome, step, stepOnSound}
 use Rattle.board.specs.declared.Board.{Board}
 
--- the answer to an event, and the board after it
+-- one event on a board, as the loops of the runs go (their proofs cite it): its answer, and the board after it
 pub record Stepped : Type 0 where
   pub answer : Answer
   pub board : Board
 
--- "starts with 64 free records and a fresh station of limit 15"
+-- what a panel starts with: "64 free records and a fresh station of limit 15"; "short form and `panelrun`: both set"
 abbrev pub startBoard : Board
 startBoard = record { station = freshStation 15 marked marked; len = 64; calls = replicate 64 freeCall }
 

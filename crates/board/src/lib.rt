@@ -1,5 +1,5 @@
-// How a run holds its table: 64 records by value, of which the first `len` are the table. Where an event acts on it, by what
-// the run keeps beside it.
+// How a run holds its table: 64 records by value, of which the first `len` are the table. The one that a panel starts with, its test, and
+// where an event acts on it, by what the run keeps beside it.
 ghost use mathlib.Core.Path.{_≡_};
 ghost use mathlib.Core.Bool.{true};
 ghost use Prim.Native.Nat.{ℕ, _≤_};
@@ -20,7 +20,7 @@ pub struct Board {
     pub calls: [Call; 64],
 }
 
-// 64 free records and a fresh station of limit 15 with both marks.
+// What a panel starts with: 64 free records and a fresh station of limit 15 with both marks.
 pub fn start() -> Board
     ensures { λ r. ⌜ r ≡ startBoard ⌝ }
 {

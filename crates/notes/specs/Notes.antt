@@ -1,6 +1,5 @@
--- What is noted of a table: free records, due times, open identifiers; and what a run keeps of that from event to event.
+-- What is noted of a table: free records, due times, open identifiers; and the draw among those.
 use Prim.Native.Nat.{ℕ, zero, suc, _+_, _-_, min}
-use mathlib.Core.Path.{_≡_}
 use mathlib.Core.Bool.{Bool, _||_}
 use mathlib.Core.List.{List, [], _∷_, _++_, map}
 use lib.ListN.{length, replicate}

@@ -170,7 +170,8 @@ pub fn joined(held: &[u32; 64], p: Pendings) -> [u32; 68]
 }
 
 // "takes the first identifier from the next one on that no open request has": candidates in a row, each sought in the
-// column of the identifiers held; left by label when a candidate is free. The scan goes to the end: without an exit the compiler looks at several places at once.
+// column of the identifiers held; left by label when a candidate is free. The scan goes to the end: without an exit the compiler
+// looks at several places at once.
 fn draw(held: &[u32; 68], next: u16) -> u16
     requires { ⌜ length (now held) ≡ 68 ⌝ }
     ensures { λ r. ⌜ r ≡ firstFreeIn 69 (now (held .entry)) next ⌝ }

@@ -13,7 +13,7 @@ use Rattle.printout.specs.Panel.{linesText}
 use Rattle.printout.specs.Written.{Written}
 use Rattle.panel.specs.declared.Played.{Played}
 
--- the board that a list of events leaves: what the definition's run leaves of the table that it holds
+-- the board that a list of events leaves, where it holds at most 64 records: what the definition's run leaves of its table
 unfoldable pub boardAfter : Board → List Event → Board
 boardAfter b events = let r = run (b .station) (tableOf b) events in boardWith b (r .station) (r .calls)
 

@@ -18,7 +18,7 @@ abbrev pub onBoard : Board → ℕ → list.Ran → Ran
 onBoard b cut r = ran (r .done) (r .refused) cut (boardWith b (r .station) (r .calls))
 
 -- all whole records, in order: the definition's run over the table that the board holds; a cut last record is said, by its byte
--- count, and not run. A board longer than 64 records refuses each
+-- count, and not run. A board longer than 64 is "over 64 records": each is refused, with 1, and it stays
 abbrev pub runBoard : Board → List ℕ → Ran
 runBoard b bytes =
     when ltb 64 (b .len) then ran 0 (length bytes / 24) (length bytes % 24) b else

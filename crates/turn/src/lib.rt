@@ -82,7 +82,8 @@ fn number(kind: u8, s: Station, e: Event, seen: Seen) -> u8
     0
 }
 
-// The number of a well-made event by its kind, a literal in each arm of kinds 1 to 15; those of 16 to 31 have 11, 6 and 9. There is no other kind.
+// The number of a well-made event by its kind, a literal in each arm of kinds 1 to 15; those of 16 to 31 have 11, 6 and 9. A well-made event has
+// no other kind: the last arm is never taken.
 fn number_by_kind(s: Station, e: Event, seen: Seen) -> u8
     requires { ⌜ (s .last ≤ e .time) × (wellMade e ≡ true) ⌝ }
     ensures { λ r. ⌜ r ≡ numberOf s e seen ⌝ }
