@@ -10,9 +10,9 @@ use Rattle.call.specs.declared.Call.{Call}
 use Rattle.call.specs.Record.{freeCall, isFree}
 use Rattle.notes.specs.declared.Notes.{Notes}
 use Rattle.notes.specs.Mask.{over, weigh}
-use Rattle.notes.specs.Notes.{Kept, notesOf, refreshedOf, frees, heldBy, quietUntil}
+use Rattle.notes.specs.Notes.{notesOf, refreshedOf, frees, heldBy, quietUntil}
 use Rattle.notes.proofs.Mask.{over-length}
-use Rattle.notes.proofs.Kept.{kept-next, kept-may}
+use Rattle.notes.proofs.Kept.{Kept, kept-next, kept-may}
 use Rattle.notes.proofs.Bound.{refreshed-bound, kept-summed}
 use Rattle.station.specs.declared.Station.{Station}
 use Rattle.board.specs.declared.Board.{Board}

@@ -18,7 +18,8 @@ use Rattle.remote.specs.Held.{timersOf}
 use Rattle.station.specs.Table.{requestsOf, at}
 use Rattle.notes.specs.declared.Notes.{Notes}
 use Rattle.notes.specs.Mask.{over}
-use Rattle.notes.specs.Notes.{Kept, frees, under, never, joinedOf, firstFreeIn}
+use Rattle.notes.proofs.Kept.{Kept}
+use Rattle.notes.specs.Notes.{frees, under, never, joinedOf, firstFreeIn}
 use Rattle.notes.proofs.Mask.{over-length}
 use Rattle.board.proofs.Boards.{table-long}
 use Rattle.notes.proofs.Four.{joined-free}

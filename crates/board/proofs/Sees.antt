@@ -20,7 +20,8 @@ use Rattle.station.specs.declared.Station.{Station}
 use Rattle.station.specs.Table.{place}
 use Rattle.notes.specs.declared.Notes.{Notes}
 use Rattle.notes.specs.Mask.{over}
-use Rattle.notes.specs.Notes.{Kept, frees, under, never, identifierIn}
+use Rattle.notes.proofs.Kept.{Kept}
+use Rattle.notes.specs.Notes.{frees, under, never, identifierIn}
 use Rattle.turn.specs.declared.Seen.{Seen}
 use Rattle.turn.specs.Turn.{placeOf, Sees}
 use Rattle.board.proofs.Boards.{table-long}

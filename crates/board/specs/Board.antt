@@ -3,31 +3,39 @@ use Prim.Native.Nat.{ℕ}
 use mathlib.Core.Bool.{Bool, _&&_, not}
 use mathlib.Core.List.{List, _++_}
 use lib.Dec.{ltb}
-use lib.ListN.{take, drop}
+use lib.ListN.{take, drop, replicate}
 use Rattle.ground.specs.Choice.{when_then_else_}
 use Rattle.event.specs.declared.Event.{Event}
+use Rattle.notice.specs.Notice.{marked}
 use Rattle.call.specs.declared.Call.{Call}
+use Rattle.call.specs.Record.{freeCall}
 use Rattle.station.specs.declared.Answer.{Answer}
-use Rattle.station.specs.Station.{emptyAnswer}
+use Rattle.station.specs.declared.Station.{Station}
+use Rattle.station.specs.Station.{emptyAnswer, freshStation}
 use Rattle.station.specs.Table.{sound}
 use Rattle.station.specs.Step.{Outcome, step, stepOnSound}
 use Rattle.board.specs.declared.Board.{Board}
 
--- the answer to an event, and the board after it
+-- one event on a board, as the loops of the runs go (their proofs cite it): its answer, and the board after it
 pub record Stepped : Type 0 where
   pub answer : Answer
   pub board : Board
+
+-- what a panel starts with: "64 free records and a fresh station of limit 15"; "short form and `panelrun`: both set"
+abbrev pub startBoard : Board
+startBoard = record { station = freshStation 15 marked marked; len = 64; calls = replicate 64 freeCall }
 
 -- the table that a board holds
 abbrev pub tableOf : Board → List Call
 tableOf b = take (b .len) (b .calls)
 
--- an outcome on that table, put back: the rest of the array is unchanged
+-- another station and another such table, held in its place: the rest of the array is unchanged
+abbrev pub boardWith : Board → Station → List Call → Board
+boardWith b s calls = record { station = s; len = b .len; calls = calls ++ drop (b .len) (b .calls) }
+
+-- an outcome on that table, put back
 abbrev pub putBack : Board → Outcome → Stepped
-putBack b o = record {
-  answer = o .answer;
-  board = record { station = o .station; len = b .len; calls = o .calls ++ drop (b .len) (b .calls) };
-}
+putBack b o = record { answer = o .answer; board = boardWith b (o .station) (o .calls) }
 
 -- one event; 64 records are held at most: a longer length is "over 64 records", refused with 1
 abbrev pub stepBoard : Board → Event → Stepped

@@ -1,5 +1,5 @@
-// How a run holds its table: 64 records by value, of which the first `len` are the table. Where an event acts on it, by what
-// the run keeps beside it.
+// How a run holds its table: 64 records by value, of which the first `len` are the table. The one that a panel starts with, its test, and
+// where an event acts on it, by what the run keeps beside it.
 ghost use mathlib.Core.Path.{_≡_};
 ghost use mathlib.Core.Bool.{true};
 ghost use Prim.Native.Nat.{ℕ, _≤_};
@@ -8,7 +8,7 @@ ghost use lib.ListN.{length};
 ghost use Rattle.ground.specs.Lists.{first, all};
 ghost use Rattle.notes.specs.Notes.{atLeast, under};
 ghost use Rattle.turn.specs.Turn.{placeOf};
-ghost use Rattle.board.specs.Board.{soundBoard, within};
+ghost use Rattle.board.specs.Board.{startBoard, soundBoard, within};
 use call::Call;
 use event::Event;
 use station::Station;
@@ -18,6 +18,21 @@ pub struct Board {
     pub station: Station,
     pub len: usize,
     pub calls: [Call; 64],
+}
+
+// What a panel starts with: 64 free records and a fresh station of limit 15 with both marks.
+pub fn start() -> Board
+    ensures { λ r. ⌜ r ≡ startBoard ⌝ }
+{
+    let made = station::fresh(15, 1, 1);
+    let station = made.station;
+    let free = call::free_call();
+    let calls = [free; 64];
+    Board {
+        station: station,
+        len: 64,
+        calls: calls,
+    }
 }
 
 // Table and station are sound: the test behind number 1.

@@ -11,7 +11,7 @@ use Rattle.ground.proofs.Bools.{and-l, and-r, or-left, or-right, nor-l, nor-r, 
 use Rattle.ground.proofs.Walks.{and-false}
 use Rattle.event.specs.declared.Event.{Event}
 use Rattle.event.specs.Kinds.{cfnr, facility, alerting, connect, releaseComplete, onLeg2, opens, ofOutgoing}
-use Rattle.event.specs.WellMade.{reroutingFields, messageFields, callMade}
+use Rattle.event.specs.WellMade.{reroutingFields, dli1Fields, messageFields, callMade}
 use Rattle.notice.specs.declared.History.{History}
 use Rattle.notice.specs.Notice.{noNotice, noNumber, noHistory, seen, numberShown, afterDli3}
 use Rattle.notice.specs.Whole.{Told, dli1, diverted}
@@ -160,28 +160,91 @@ module _ (last identifier : ℕ) (l : List Told) (c : Call) (e : Event) (h : T (
   as-outgoing : T (ofOutgoing e) → Outgoing c
   as-outgoing t = outgoing-of last c h (to-outgoing c e a t)
 
-  hears : Made e → Hears l (tells (dli1s (c .waiting)) c e) (opens e) (act c e identifier)
-  unfolding act actIncoming actOutgoing tells stateForbids
-  hears (opensOutgoing k f) = rw k (record { learns = learns-none l; kept = λ z. absurd z })
-  hears (opensIncoming k f) = rw k (record { learns = learns-none l; kept = λ z. absurd z })
-  hears (opensDiverted k f) = rw k (record { learns = learns-none l; kept = λ z. absurd z })
-  hears (alerts k f) = rw k (quiet m)
-  hears (answers k f) = rw k (when-has (Hears l [] false) (wait c) (λ _. quiet m) (λ _. quiet m))
-  hears (divertsCall k f) = rw k (quiet m)
-  hears (results k f) = rw k (quiet m)
-  hears (rejects k f) = rw k (quiet m)
-  hears (legFails k f) = rw k (quiet m)
-  hears (clocks k f) = rw k (quiet m)
-  hears (endsOwn k f) = rw k (when-has (Hears l [] false) (invoked c) (λ _. freed) (λ _. freed))
-  hears (invokes k f) = rw k (rerouted-hears c e m (as-outgoing (rw k tt)) f)
-  hears (informs k f) =
+  abbrev Here : Type 0
+  Here = Hears l (tells (dli1s (c .waiting)) c e) (opens e) (act c e identifier)
+
+  -- a lemma for each kind: as clauses of one function, which opens `act` for all of them, they take three times as long to check
+  opened : e .kind ≡ 1 → Here
+  unfolding act tells
+  opened k = rw k (record { learns = learns-none l; kept = λ z. absurd z })
+
+  opened-incoming : e .kind ≡ 2 → Here
+  unfolding act tells
+  opened-incoming k = rw k (record { learns = learns-none l; kept = λ z. absurd z })
+
+  opened-diverted : e .kind ≡ 3 → Here
+  unfolding act tells
+  opened-diverted k = rw k (record { learns = learns-none l; kept = λ z. absurd z })
+
+  alerted-here : e .kind ≡ 4 → Here
+  unfolding act actIncoming tells
+  alerted-here k = rw k (quiet m)
+
+  answered-here : e .kind ≡ 5 → Here
+  unfolding act actIncoming tells
+  answered-here k = rw k (when-has (Hears l [] false) (wait c) (λ _. quiet m) (λ _. quiet m))
+
+  diverted-here : e .kind ≡ 6 → Here
+  unfolding act actIncoming tells
+  diverted-here k = rw k (quiet m)
+
+  granted-here : e .kind ≡ 7 → Here
+  unfolding act actIncoming tells
+  granted-here k = rw k (quiet m)
+
+  rejected-here : e .kind ≡ 8 → Here
+  unfolding act actIncoming tells
+  rejected-here k = rw k (quiet m)
+
+  failed-here : e .kind ≡ 9 → Here
+  unfolding act actIncoming tells
+  failed-here k = rw k (quiet m)
+
+  expired-here : e .kind ≡ 10 → Here
+  unfolding act actIncoming tells
+  expired-here k = rw k (quiet m)
+
+  ended-here : e .kind ≡ 11 → Here
+  unfolding act actIncoming actOutgoing tells
+  ended-here k = rw k (when-has (Hears l [] false) (invoked c) (λ _. freed) (λ _. freed))
+
+  rerouted-here : e .kind ≡ 12 → T (reroutingFields e) → Here
+  unfolding act actOutgoing tells
+  rerouted-here k f = rw k (rerouted-hears c e m (as-outgoing (rw k tt)) f)
+
+  informed-here : e .kind ≡ 13 → T (dli1Fields e) → Here
+  unfolding act actOutgoing tells
+  informed-here k f =
       let d : Ranged (dli1Of e) = search (and-l, and-r) depth 12 in
       let x = heard-dli1 m (dli1Of e) d in
       rw k (record { learns = x .learns; kept = λ _. x .remembers })
-  hears (messages k f) =
+
+  messaged-here : e .kind ≡ 14 → T (messageFields e) → Here
+  unfolding act actOutgoing tells stateForbids
+  messaged-here k f =
       let u : T (not (messageForbids c e)) = rw k at n in
       rw k (messaged-hears c e m (as-outgoing (rw k tt)) f (search (nor-l, nor-r) depth 8) (search (nor-l, nor-r) depth 8))
-  hears (farEnds k f) = rw k (freed)
+
+  far-ended-here : e .kind ≡ 15 → Here
+  unfolding act actIncoming tells
+  far-ended-here k = rw k freed
+
+  hears : Made e → Here
+  hears (opensOutgoing k f) = opened k
+  hears (opensIncoming k f) = opened-incoming k
+  hears (opensDiverted k f) = opened-diverted k
+  hears (alerts k f) = alerted-here k
+  hears (answers k f) = answered-here k
+  hears (divertsCall k f) = diverted-here k
+  hears (results k f) = granted-here k
+  hears (rejects k f) = rejected-here k
+  hears (legFails k f) = failed-here k
+  hears (clocks k f) = expired-here k
+  hears (endsOwn k f) = ended-here k
+  hears (invokes k f) = rerouted-here k f
+  hears (informs k f) = informed-here k f
+  hears (messages k f) = messaged-here k f
+  hears (farEnds k f) = far-ended-here k
 
 -- an open starts with no history
 open-history : (identifier : ℕ) (c : Call) (e : Event) → T (opens e) → act c e identifier .call .history ≡ noHistory

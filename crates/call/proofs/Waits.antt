@@ -218,8 +218,16 @@ module _ (last identifier : ℕ) (c : Call) (e : Event) (h : T (soundCall last c
       rw k (rw k at (messaged-waits c e (outgoing-here (rw k tt)) k (search (nor-l, nor-r) depth 8) low high (denied (onLeg2 e) (invoked c) q)))
   waits (farEnds k f) = rw k refl
 
-  goes : Made e → GoesBy (waitingOf c) c e (act c e identifier .sent) (act c e identifier .call)
+  -- by its kind an event is one rule's
+  invoke-acts : e .kind ≡ 12 → act c e identifier ≡ rerouted c e
   unfolding act actIncoming actOutgoing
+  invoke-acts k = rw k refl
+
+  message-acts : e .kind ≡ 14 → act c e identifier ≡ messaged c e
+  unfolding act actIncoming actOutgoing
+  message-acts k = rw k refl
+
+  goes : Made e → GoesBy (waitingOf c) c e (act c e identifier .sent) (act c e identifier .call)
   goes (opensOutgoing k f) = elsewhere (rw k refl) (λ q. omega (arith, k, q)) (rw k refl)
   goes (opensIncoming k f) = elsewhere (rw k refl) (λ q. omega (arith, k, q)) (rw k refl)
   goes (opensDiverted k f) = elsewhere (rw k refl) (λ q. omega (arith, k, q)) (rw k refl)
@@ -231,13 +239,10 @@ module _ (last identifier : ℕ) (c : Call) (e : Event) (h : T (soundCall last c
   goes (legFails k f) = elsewhere (rw k refl) (λ q. omega (arith, k, q)) (rw k refl)
   goes (clocks k f) = elsewhere (rw k refl) (λ q. omega (arith, k, q)) (rw k refl)
   goes (endsOwn k f) = elsewhere (rw k refl) (λ q. omega (arith, k, q)) (rw k refl)
-  goes (invokes k f) =
-      let q : act c e identifier ≡ rerouted c e = rw k refl in
-      rw q (rerouted-goes c e (outgoing-here (rw k tt)) k)
+  goes (invokes k f) = rw (invoke-acts k) (rerouted-goes c e (outgoing-here (rw k tt)) k)
   goes (informs k f) = elsewhere (rw k refl) (λ q. omega (arith, k, q)) (rw k refl)
   goes (messages k f) =
-      let q : act c e identifier ≡ messaged c e = rw k refl in
-      rw q (record {
+      rw (message-acts k) (record {
         accepts = λ i j. absurd (rw k at j);
         denies = λ i z. absurd (omega (arith, k, z));
         party = messaged-party c e (outgoing-here (rw k tt)) k;

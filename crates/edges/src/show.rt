@@ -24,7 +24,7 @@ pub fn say(label: &[u8]) {
 
 // 64 free records and a fresh station of limit 15.
 pub fn fresh() -> Show {
-    let board = panel::start();
+    let board = board::start();
     Show {
         board: board,
         position: 0,

@@ -29,7 +29,7 @@ pub fn marks() {
 
 // A board whose station has an activation pending since 10 with identifier 7, at the last time 10.
 fn waiting() -> Board {
-    let mut b = panel::start();
+    let mut b = board::start();
     b.station.last = 10;
     b.station.remote.pending.activation.wait = 1;
     b.station.remote.pending.activation.identifier = 7;

@@ -95,7 +95,7 @@ pub fn fresh_codes() {
 
 // The board with a record of the host's in its first place, at the last time 10.
 fn with(c: Call, position: u32) -> Show {
-    let mut b = panel::start();
+    let mut b = board::start();
     b.station.last = 10;
     b.calls[0] = c;
     Show {

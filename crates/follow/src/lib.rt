@@ -1,16 +1,11 @@
-// Kinds 16 to 31 on what a station holds for them, and the clock's turn there: which numbers they are refused with, what they do, and
-// when it is sound.
+// One event of kinds 16 to 31 on what a station holds for them, and the clock's turn there: a request of our user's is kept and sent,
+// and ends by its answer or with its timer.
 ghost use mathlib.Core.Path.{_≡_};
-ghost use mathlib.Core.Bool.{not, _&&_};
-ghost use lib.Dec.{leb, eqb};
-ghost use Rattle.timed.specs.Timed.{waits};
 ghost use Rattle.remote.specs.Kinds.{letterOf};
-ghost use Rattle.remote.specs.Held.{pendingOf, withPending, keptFor, withKept, firstDue, pendingsHold, remoteHolds};
-ghost use Rattle.remote.specs.Rules.{its, remoteRefusal, put, invokeOf, echoOf, asking, stands, accepts, keptAfter, told, agreed, declined, received, over, actRemote, unmoved, expired, lapseOf, lapse, taken, step};
-ghost use Rattle.follow.specs.Numbers.{numberOf};
+ghost use Rattle.remote.specs.Held.{withPending, firstDue};
+ghost use Rattle.remote.specs.Rules.{put, invokeOf, asking, over, actRemote, unmoved, expired, lapseOf, lapse, taken, step};
 use call::Message;
 use event::Event;
-use remote::Kept;
 use remote::Moved;
 use remote::Pendings;
 use remote::Remote;
@@ -27,21 +22,6 @@ fn letter_of(sort: u8) -> u8
         b'i'
     } else {
         b'c'
-    }
-}
-
-// The request of a sort.
-fn pending_of(sort: u8, p: Pendings) -> Pending
-    ensures { λ r. ⌜ r ≡ pendingOf sort p ⌝ }
-{
-    if sort == 0 {
-        p.activation
-    } else if sort == 1 {
-        p.deactivation
-    } else if sort == 2 {
-        p.interrogation
-    } else {
-        p.check
     }
 }
 
@@ -63,84 +43,6 @@ fn with_pending(sort: u8, new: Pending, p: Pendings) -> Pendings
     }
     q.check = new;
     q
-}
-
-// The destination kept for a type.
-fn kept_for(reason: u8, k: Kept) -> u16
-    ensures { λ r. ⌜ r ≡ keptFor reason k ⌝ }
-{
-    if reason == 1 {
-        k.cfu
-    } else if reason == 2 {
-        k.cfb
-    } else {
-        k.cfnr
-    }
-}
-
-fn with_kept(reason: u8, number: u16, k: Kept) -> Kept
-    ensures { λ r. ⌜ r ≡ withKept reason number k ⌝ }
-{
-    let mut q = k;
-    if reason == 1 {
-        q.cfu = number;
-        return q;
-    }
-    if reason == 2 {
-        q.cfb = number;
-        return q;
-    }
-    q.cfnr = number;
-    q
-}
-
-// "16 to 19 with one of the same sort pending is 9"
-fn already_asked(p: Pending, kind: u8) -> bool
-    ensures { λ r. ⌜ r ≡ (leb 16 kind && leb kind 19) && waits p ⌝ }
-{
-    (16 <= kind) & (kind <= 19) & (p.wait == 1)
-}
-
-fn none_waits(p: Pending, kind: u8) -> bool
-    ensures { λ r. ⌜ r ≡ (leb 24 kind && leb kind 31) && not (waits p) ⌝ }
-{
-    (24 <= kind) & (kind <= 31) & !(p.wait == 1)
-}
-
-fn other_answer(p: Pending, kind: u8, identifier: u16) -> bool
-    ensures { λ r. ⌜ r ≡ (leb 24 kind && leb kind 31) && not (eqb identifier (p .identifier)) ⌝ }
-{
-    (24 <= kind) & (kind <= 31) & !(identifier == p.identifier)
-}
-
-fn its(r: Remote, e: Event) -> Pending
-    ensures { λ p. ⌜ p ≡ its r e ⌝ }
-{
-    let pending = r.pending;
-    pending_of(e.kind % 4, pending)
-}
-
-fn number_of(p: Pending, kind: u8, identifier: u16) -> u8
-    ensures { λ r. ⌜ r ≡ numberOf p kind identifier ⌝ }
-{
-    if none_waits(p, kind) {
-        return 11;
-    }
-    if other_answer(p, kind, identifier) {
-        return 6;
-    }
-    if already_asked(p, kind) {
-        return 9;
-    }
-    0
-}
-
-// Numbers 11, 6 and 9 of an event of kinds 16 to 31; else 0.
-pub fn remote_refusal(r: Remote, e: Event) -> u8
-    ensures { λ n. ⌜ n ≡ remoteRefusal r e ⌝ }
-{
-    let p = its(r, e);
-    number_of(p, e.kind, e.identifier)
 }
 
 fn put(sort: u8, p: Pending, r: Remote) -> Remote
@@ -172,24 +74,6 @@ fn invoke_of(e: Event, identifier: u16) -> Message
     }
 }
 
-fn echo_of(letter: u8, e: Event, destination: u16) -> Message
-    ensures { λ m. ⌜ m ≡ echoOf letter e destination ⌝ }
-{
-    Message {
-        letter: letter,
-        leg: 0,
-        reason: 0,
-        option: 0,
-        counter: 0,
-        flag: 0,
-        identifier: e.identifier,
-        destination: destination,
-        diverting: 0,
-        original: 0,
-        number: 0,
-    }
-}
-
 fn asking(r: Remote, e: Event, identifier: u16) -> Moved
     ensures { λ m. ⌜ m ≡ asking r e identifier ⌝ }
 {
@@ -200,92 +84,6 @@ fn asking(r: Remote, e: Event, identifier: u16) -> Moved
         remote: after,
         message: message,
         identifier: identifier as u32,
-    }
-}
-
-fn stands(r: Remote, e: Event) -> u16
-    ensures { λ n. ⌜ n ≡ stands r e ⌝ }
-{
-    let kept = r.kept;
-    kept_for(e.reason, kept)
-}
-
-fn one_stands(r: Remote, e: Event) -> bool
-    ensures { λ b. ⌜ b ≡ not (eqb (stands r e) 0) ⌝ }
-{
-    let standing = stands(r, e);
-    !(standing == 0)
-}
-
-fn accepts(r: Remote, e: Event) -> bool
-    ensures { λ b. ⌜ b ≡ accepts r e ⌝ }
-{
-    let sort = e.kind % 4;
-    let enabled = r.enabled;
-    let allowed = r.allowed;
-    if sort == 0 {
-        return enabled == 1;
-    }
-    if sort == 3 {
-        return allowed == 1;
-    }
-    one_stands(r, e)
-}
-
-fn kept_after(r: Remote, e: Event) -> Kept
-    ensures { λ k. ⌜ k ≡ keptAfter r e ⌝ }
-{
-    let kept = r.kept;
-    let sort = e.kind % 4;
-    if sort == 0 {
-        return with_kept(e.reason, e.second, kept);
-    }
-    if sort == 1 {
-        return with_kept(e.reason, 0, kept);
-    }
-    kept
-}
-
-fn told(r: Remote, e: Event) -> u16
-    ensures { λ n. ⌜ n ≡ told r e ⌝ }
-{
-    let sort = e.kind % 4;
-    if sort == 2 { stands(r, e) } else { 0 }
-}
-
-fn agreed(r: Remote, e: Event) -> Moved
-    ensures { λ m. ⌜ m ≡ agreed r e ⌝ }
-{
-    let destination = told(r, e);
-    let message = echo_of(b'r', e, destination);
-    let kept = kept_after(r, e);
-    let mut after = r;
-    after.kept = kept;
-    Moved {
-        remote: after,
-        message: message,
-        identifier: e.identifier as u32,
-    }
-}
-
-fn declined(r: Remote, e: Event) -> Moved
-    ensures { λ m. ⌜ m ≡ declined r e ⌝ }
-{
-    let message = echo_of(b'e', e, 0);
-    Moved {
-        remote: r,
-        message: message,
-        identifier: e.identifier as u32,
-    }
-}
-
-fn received(r: Remote, e: Event) -> Moved
-    ensures { λ m. ⌜ m ≡ received r e ⌝ }
-{
-    if accepts(r, e) {
-        agreed(r, e)
-    } else {
-        declined(r, e)
     }
 }
 
@@ -310,7 +108,7 @@ fn act_remote(r: Remote, e: Event, identifier: u16) -> Moved
     if (16 <= kind) & (kind <= 19) {
         asking(r, e, identifier)
     } else if (20 <= kind) & (kind <= 23) {
-        received(r, e)
+        consent::received(r, e)
     } else {
         over(r, kind % 4, 65536)
     }
@@ -355,7 +153,7 @@ fn expired(r: Remote, sort: u8) -> Moved
     ensures { λ m. ⌜ m ≡ expired r sort ⌝ }
 {
     let pending = r.pending;
-    let p = pending_of(sort, pending);
+    let p = holding::pending_of(sort, pending);
     over(r, sort, p.identifier as u32)
 }
 
@@ -383,7 +181,7 @@ fn taken(r: Remote, e: Event) -> bool
     ensures { λ b. ⌜ b ≡ taken r e ⌝ }
 {
     let made = event::remote_fields(e);
-    let number = remote_refusal(r, e);
+    let number = holding::remote_refusal(r, e);
     ((16 <= e.kind) & (e.kind <= 31)) & made & (number == 0)
 }
 
@@ -398,22 +196,4 @@ pub fn step(r: Remote, e: Event, identifier: u16) -> Moved
         return act_remote(r, e, identifier);
     }
     unmoved(r)
-}
-
-fn pendings_hold(last: u64, p: Pendings) -> bool
-    ensures { λ b. ⌜ b ≡ pendingsHold last p ⌝ }
-{
-    let a = p.activation;
-    let d = p.deactivation;
-    let i = p.interrogation;
-    let c = p.check;
-    timed::holds(last, a) & timed::holds(last, d) & timed::holds(last, i) & timed::holds(last, c)
-}
-
-// What is held here is sound, but for shared identifiers.
-pub fn remote_holds(last: u64, r: Remote) -> bool
-    ensures { λ b. ⌜ b ≡ remoteHolds last r ⌝ }
-{
-    let pending = r.pending;
-    pendings_hold(last, pending) & (r.enabled <= 1) & (r.allowed <= 1)
 }

@@ -5,3 +5,4 @@ pub mod Pointwise
 pub mod Determined
 pub mod Lowest
 pub mod Zeros
+pub mod Carried

@@ -93,22 +93,17 @@ all-get p [] i d h k = absurd (not-suc-le-zero k)
 all-get p (y ∷ ys) zero d h k = both (p y) (all p ys) h .0
 all-get p (y ∷ ys) (suc i) d h k = all-get p ys i d (both (p y) (all p ys) h .1) (le-of-suc-le-suc k)
 
+or-assoc : (a b c : Bool) → (a || b) || c ≡ a || (b || c)
+or-assoc true b c = refl
+or-assoc false b c = refl
+
 module _ {A : Type 0} (p : A → Bool) where
-  any-on′ : (l : List A) (i : ℕ) (d : A) → i < length l → any p (take i l) ≡ false → p (getD l i d) ≡ false → any p (take (suc i) l) ≡ false
+  any-next′ : (l : List A) (i : ℕ) (d : A) → i < length l → any p (take (suc i) l) ≡ any p (take i l) || p (getD l i d)
   unfolding any
-  any-on′ [] i d h e q = absurd (not-suc-le-zero h)
-  any-on′ (x ∷ xs) zero d h e q = simp q
-  any-on′ (x ∷ xs) (suc i) d h e q =
-      let w = neither (p x) (any p (take i xs)) e in
-      simp (w .0, any-on′ xs i d (le-of-suc-le-suc h) (w .1) q)
+  any-next′ [] i d h = absurd (not-suc-le-zero h)
+  any-next′ (x ∷ xs) zero d h = or-false (p x)
+  any-next′ (x ∷ xs) (suc i) d h = ap (λ b. p x || b) (any-next′ xs i d (le-of-suc-le-suc h)) ∙ sym (or-assoc (p x) (any p (take i xs)) (p (getD xs i d)))
 
-  -- none of the first i passes, nor does the next
-  pub any-on : (l : List A) (i : ℕ) (d : A) → i < length l → any p (take i l) ≡ false → p (getD l i d) ≡ false → any p (take (i + 1) l) ≡ false
-  any-on l i d h e q = rw add-one (any-on′ l i d h e q)
-
-  -- one that passes
-  pub any-at : (l : List A) (i : ℕ) (d : A) → i < length l → p (getD l i d) ≡ true → any p l ≡ true
-  unfolding any
-  any-at [] i d h q = absurd (not-suc-le-zero h)
-  any-at (x ∷ xs) zero d h q = simp q
-  any-at (x ∷ xs) (suc i) d h q = simp (any-at xs i d (le-of-suc-le-suc h) q, or-true)
+  -- one of the first i passes, or the next does
+  pub any-next : (l : List A) (i : ℕ) (d : A) → i < length l → any p (take (i + 1) l) ≡ any p (take i l) || p (getD l i d)
+  any-next l i d h = rw add-one (any-next′ l i d h)

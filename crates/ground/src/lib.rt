@@ -1,6 +1,8 @@
-// Numbers of several bytes, big-endian, at any place of a slice.
+// Bytes of a slice: numbers of several, big-endian, at any place; and some moved to its start.
 ghost use mathlib.Core.Path.{_≡_};
 ghost use Prim.Native.Nat.{ℕ, _+_, _*_, _≤_, _<_};
+ghost use lib.ListN.{length, drop};
+ghost use lib.Seq.{paste};
 ghost use Rattle.ground.specs.Bytes.{pair, four, wordAt, longAt};
 
 pub fn paired(high: u8, low: u8) -> u16
@@ -31,4 +33,16 @@ pub fn long_at(bytes: &[u8], i: usize) -> u64
     let c = word_at(bytes, i + 4);
     let d = word_at(bytes, i + 6);
     joined(a, b, c, d)
+}
+
+// Moves bytes of a buffer to its start: those of a record that the next piece completes.
+pub fn carry(buffer: &mut [u8], from: usize, count: usize)
+    requires { ⌜ from + count ≤ length (now buffer) ⌝ }
+    ensures { λ _. ⌜ now (buffer .exit) ≡ paste (now (buffer .entry)) 0 (drop from (now (buffer .entry))) count ⌝ }
+{
+    let mut i: usize = 0;
+    while i < count {
+        buffer[i] = buffer[from + i];
+        i += 1;
+    }
 }

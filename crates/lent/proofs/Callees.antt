@@ -41,27 +41,27 @@ use Rattle.survey.proofs.Asked as Q
 use Rattle.survey.proofs.Asked.Laws as Q′
 use Rattle.survey.proofs.Noted as N
 use Rattle.survey.proofs.Noted.Laws as N′
-use Rattle.lent.specs.declared.Input.{Input}
-use Rattle.lent.specs.declared.Decision.{Decision}
-use Rattle.lent.specs.declared.Pick.{Pick}
-use Rattle.lent.specs.Lent.{askedOf, placeSeen, wantsColumn, fromColumn, asItStands, pickedOf, decisionBy}
-use Rattle.lent.proofs.Input as I
-use Rattle.lent.proofs.Input.Laws as I′
-use Rattle.lent.proofs.Decision as D
-use Rattle.lent.proofs.Decision.Laws as D′
-use Rattle.lent.proofs.Pick as P
-use Rattle.lent.proofs.Pick.Laws as P′
+use Rattle.decision.specs.declared.Input.{Input}
+use Rattle.decision.specs.declared.Decision.{Decision}
+use Rattle.decision.specs.declared.Pick.{Pick}
+use Rattle.decision.specs.Decision.{askedOf, placeSeen, wantsColumn, fromColumn, asItStands, pickedOf, decisionBy}
+use Rattle.decision.proofs.Input as I
+use Rattle.decision.proofs.Input.Laws as I′
+use Rattle.decision.proofs.Decision as D
+use Rattle.decision.proofs.Decision.Laws as D′
+use Rattle.decision.proofs.Pick as P
+use Rattle.decision.proofs.Pick.Laws as P′
 use Rattle.slice.proofs.fit as fit
 use Rattle.slice.proofs.record_at as read
 use Rattle.survey.proofs.survey as survey
 use Rattle.survey.proofs.column as column
-use Rattle.lent.proofs.asked as asked
-use Rattle.lent.proofs.place_seen as place
-use Rattle.lent.proofs.wants_column as wants
-use Rattle.lent.proofs.from_column as from-column
-use Rattle.lent.proofs.as_it_stands as stands
+use Rattle.decision.proofs.asked as asked
+use Rattle.decision.proofs.place_seen as place
+use Rattle.decision.proofs.wants_column as wants
+use Rattle.decision.proofs.from_column as from-column
+use Rattle.decision.proofs.as_it_stands as stands
 use Rattle.lent.proofs.picked as picked
-use Rattle.lent.proofs.decided_on as decided
+use Rattle.decision.proofs.decided_on as decided
 
 -- ---- with no model
 pub short : (len n : ℕ) → n ≡ fitOf len → (n ≤ len) × (n ≤ 64)

@@ -1,19 +1,19 @@
--- What was noted and picked of a lent table decides the event as the definition does, on every table; and what a decision stands for is the definition's step. Assumes nothing.
-use Prim.Native.Nat.{ℕ, _+_, _≤_, _<_, zero-le}
+-- What was noted and picked of a lent table decides the event as the definition does, on every table. Assumes nothing.
+use Prim.Native.Nat.{ℕ, _<_}
 use mathlib.Core.Bool.{Bool, true, false, _&&_, _||_, not}
 use mathlib.Core.List.{List}
-use mathlib.Core.Path.{_≡_, refl, sym, ap, _∙_, subst}
+use mathlib.Core.Path.{_≡_, refl, sym, ap, _∙_}
 use native.Mathlib.Omega.{arith}
 use borrow.Author.Tests.{lt-leb, leb-true, leb-false}
-use lib.Dec.{T, leb, eqb}
+use lib.Dec.{T, leb}
 use lib.ListN.{length, take}
 use lib.Seq.{take-length}
 use Rattle.ground.specs.Choice.{when_then_else_}
 use Rattle.ground.specs.Lists.{first, all}
-use Rattle.ground.proofs.Bools.{by-cases, is-true, is-false, denied, upheld}
+use Rattle.ground.proofs.Bools.{by-cases, is-true, is-false}
 use Rattle.event.specs.declared.Event.{Event}
 use Rattle.event.specs.Kinds.{diverts}
-use Rattle.event.specs.Remote.{asks, ofRemote}
+use Rattle.event.specs.Remote.{asks}
 use Rattle.identifier.specs.Identifier.{distinct}
 use Rattle.call.specs.declared.Call.{Call}
 use Rattle.call.specs.Record.{isFree}
@@ -24,9 +24,8 @@ use Rattle.remote.specs.declared.Pendings.{Pendings}
 use Rattle.station.specs.declared.Station.{Station}
 use Rattle.station.specs.Station.{stationOk}
 use Rattle.station.specs.Table.{at, place, sound, soundTable, openIdentifiers, identifierFor}
-use Rattle.station.specs.Step.{step}
 use Rattle.sound.specs.Bounds.{inBounds}
-use Rattle.slice.specs.Table.{fitOf, settledAt}
+use Rattle.slice.specs.Table.{fitOf}
 use Rattle.slice.proofs.Bounds.{fit-short, fit-long}
 use Rattle.notes.specs.Mask.{over}
 use Rattle.notes.specs.Notes.{joinedOf, identifierIn, frees, columnOf}
@@ -41,117 +40,47 @@ use Rattle.survey.proofs.Four.{four-clash}
 use Rattle.turn.specs.declared.Seen.{Seen}
 use Rattle.turn.specs.declared.Turn.{Turn}
 use Rattle.turn.specs.declared.Turn.the-variants.{Refused, Far, Done}
-use Rattle.turn.specs.Turn.{seenIn, beyond, numberOf, turnOf, actedOf, movedOf, doable, decidedOf, stationOn, stationFar, outcomeOf, Sees}
-use Rattle.turn.proofs.Turns.{done-doable}
-use Rattle.turn.proofs.Laws.{sees-in, same-act, same-moved, same-next, same-station, turn-same, decided-steps}
-use Rattle.lent.specs.declared.Input.{Input}
-use Rattle.lent.specs.declared.Pick.{Pick}
-use Rattle.lent.specs.Lent.{unchangedAs, decisionOf, decisionOn, outcomeBy, askedOf, placeSeen, pendingIn, clashIn, wantsColumn, fromColumn, asItStands, pickedOf, seenBy, decisionBy}
+use Rattle.turn.specs.Turn.{seenIn, turnOf, actedOf, movedOf, decidedOf, stationOn, stationFar, Sees}
+use Rattle.turn.proofs.Laws.{sees-in, same-act, same-moved, same-next, same-station, turn-same}
+use Rattle.decision.specs.declared.Input.{Input}
+use Rattle.decision.specs.declared.Pick.{Pick}
+use Rattle.decision.specs.Decision.{decisionOf, decisionOn, askedOf, placeSeen, pendingIn, clashIn, wantsColumn, fromColumn, asItStands, pickedOf, seenBy, decisionBy}
+use Rattle.decision.proofs.Laws.{There, turn-there}
 
--- what was seen, with the place as the code holds it
-abbrev seenAt : ℕ → ℕ → Pick → Call → Seen
-seenAt n i p c = record { len = n; place = i; identifier = p .identifier; call = c }
+-- ---- whoever sees enough, at the definition's place, decides the same
+module _ (s : Station) (calls : List Call) (e : Event) (v : Seen) (z : Sees s calls e v) (p : v .place ≡ place calls e) where
+  same-after : stationOn s e (v .identifier) ≡ stationOn s e (identifierFor s calls)
+  same-after = same-station s calls e v z ∙ sym (same-station s calls e (seenIn s calls e) (sees-in s calls e))
 
--- ---- a record changes only where there is one
+  -- the record where the event acts is the definition's; an identifier that isn't the one to be drawn is not read
+  same-acted : v .place < v .len → actedOf e v ≡ actedOf e (seenIn s calls e)
+  same-acted l =
+      let c : v .call ≡ at calls (place calls e) = z .there (rw (← z .size) l) ∙ ap (at calls) p in
+      ap (λ (d : Call). act d e (v .identifier)) c ∙ same-act s calls e v z (at calls (place calls e))
 
--- what a turn on what was seen asks of the place
-abbrev There : Seen → Turn → Type 0
-There v (Refused code) = Unit
-There v Far = Unit
-There v Done = v .place < v .len
+  same-far : stationFar s e (v .identifier) (movedOf s e v .remote) ≡ stationFar s e (identifierFor s calls) (movedOf s e (seenIn s calls e) .remote)
+  same-far = rw (same-moved s calls e v z, same-next s calls e v z)
 
-module _ (s : Station) (e : Event) (v : Seen) where
-  turn-there : There v (turnOf s e v)
-  unfolding turnOf
-  turn-there = go (eqb (numberOf s e v) 0) (ofRemote e) (beyond v) refl
+  same-decision : (t : Turn) → There v t → decisionOf s e v t ≡ decisionOf s e (seenIn s calls e) t
+  same-decision (Refused code) h = refl
+  same-decision Far h = rw (same-moved s calls e v z, same-next s calls e v z)
+  same-decision Done h = rw (same-acted h, p, same-after)
+
+  -- where the table passed its test
+  passed-there : (b : Bool) → There v (when b then turnOf s e v else Refused 1)
+  passed-there true = turn-there s e v
+  passed-there false = tt
+
+  -- the test of the table is the definition's
+  by-test : (t : Bool) → t ≡ sound s calls → decisionOf s e v (when t then turnOf s e v else Refused 1) ≡ decisionOn s calls e
+  unfolding decisionOn decidedOf
+  by-test t q = rw q (same-decision (when sound s calls then turnOf s e v else Refused 1) (passed-there (sound s calls)) ∙ rw (turn-same s calls e v z) (ap (decisionOf s e (seenIn s calls e)) (turned (sound s calls))))
     where
-      go : (z f b : Bool) → beyond v ≡ b → There v (when not z then Refused (numberOf s e v) else when f || b then Far else Done)
-      go true true b h = tt
-      go true false true h = tt
-      go true false false h = leb-false (v .len) (v .place) h
-      go false f b h = tt
+      turned : (b : Bool) → (when b then turnOf s e (seenIn s calls e) else Refused 1) ≡ (when not b then Refused 1 else turnOf s e (seenIn s calls e))
+      turned true = refl
+      turned false = refl
 
-  within : (t : Turn) → There v t → decisionOf s e v t .change .place + decisionOf s e v t .change .count ≤ v .len
-  within (Refused code) h = zero-le
-  within Far h = zero-le
-  within Done h = omega (arith, h)
-
-module _ (s : Station) (calls : List Call) (e : Event) where
-  decided-there : There (seenIn s calls e) (decidedOf s calls e)
-  unfolding decidedOf
-  decided-there = go (sound s calls)
-    where
-      go : (b : Bool) → There (seenIn s calls e) (when not b then Refused 1 else turnOf s e (seenIn s calls e))
-      go true = turn-there s e (seenIn s calls e)
-      go false = tt
-
-  pub decision-within : decisionOn s calls e .change .place + decisionOn s calls e .change .count ≤ length calls
-  unfolding decisionOn
-  decision-within = within s e (seenIn s calls e) (decidedOf s calls e) decided-there
-
-  -- ---- the outcome that a decision stands for is the turn's, and so the definition's
-
-  stands-for : (v : Seen) (t : Turn) → outcomeBy calls (decisionOf s e v t) ≡ outcomeOf s calls e v t
-  unfolding settledAt
-  stands-for v (Refused code) = refl
-  stands-for v Far = refl
-  stands-for v Done = refl
-
-  pub decision-steps : outcomeBy calls (decisionOn s calls e) ≡ step s calls e
-  unfolding decisionOn
-  decision-steps = stands-for (seenIn s calls e) (decidedOf s calls e) ∙ decided-steps s calls e
-
-  -- ---- whoever sees enough, at the definition's place, decides the same
-  module _ (v : Seen) (z : Sees s calls e v) (p : v .place ≡ place calls e) where
-    same-after : stationOn s e (v .identifier) ≡ stationOn s e (identifierFor s calls)
-    same-after = same-station s calls e v z ∙ sym (same-station s calls e (seenIn s calls e) (sees-in s calls e))
-
-    -- the record where the event acts is the definition's; an identifier that isn't the one to be drawn is not read
-    same-acted : v .place < v .len → actedOf e v ≡ actedOf e (seenIn s calls e)
-    same-acted l =
-        let c : v .call ≡ at calls (place calls e) = z .there (rw (← z .size) l) ∙ ap (at calls) p in
-        ap (λ (d : Call). act d e (v .identifier)) c ∙ same-act s calls e v z (at calls (place calls e))
-
-    same-far : stationFar s e (v .identifier) (movedOf s e v .remote) ≡ stationFar s e (identifierFor s calls) (movedOf s e (seenIn s calls e) .remote)
-    same-far = rw (same-moved s calls e v z, same-next s calls e v z)
-
-    same-decision : (t : Turn) → There v t → decisionOf s e v t ≡ decisionOf s e (seenIn s calls e) t
-    same-decision (Refused code) h = refl
-    same-decision Far h = rw (same-moved s calls e v z, same-next s calls e v z)
-    same-decision Done h = rw (same-acted h, p, same-after)
-
-    -- where the table passed its test
-    passed-there : (b : Bool) → There v (when b then turnOf s e v else Refused 1)
-    passed-there true = turn-there s e v
-    passed-there false = tt
-
-    -- the test of the table is the definition's
-    by-test : (t : Bool) → t ≡ sound s calls → decisionOf s e v (when t then turnOf s e v else Refused 1) ≡ decisionOn s calls e
-    unfolding decisionOn decidedOf
-    by-test t q = rw q (same-decision (when sound s calls then turnOf s e v else Refused 1) (passed-there (sound s calls)) ∙ rw (turn-same s calls e v z) (ap (decisionOf s e (seenIn s calls e)) (turned (sound s calls))))
-      where
-        turned : (b : Bool) → (when b then turnOf s e (seenIn s calls e) else Refused 1) ≡ (when not b then Refused 1 else turnOf s e (seenIn s calls e))
-        turned true = refl
-        turned false = refl
-
--- ---- what the code of `decided_on` found comes to
-module _ (input : Input) (v : Noted) (n : ℕ) (p : Pick) (c : Call) (fit : Bool) (bounds : fit ≡ inBounds n (input .station)) where
-  pub by-refusal : not (fit && v .sound && p .apart) ≡ true → unchangedAs 1 (input .station) ≡ decisionBy input v n p c
-  by-refusal h = rw (denied (fit && v .sound && p .apart) (inBounds n (input .station) && v .sound && p .apart) (rw bounds) h)
-
-  module _ (i : ℕ) (placed : i ≡ placeSeen v input) (t : Turn) (turns : turnOf (input .station) (input .event) (seenAt n i p c) ≡ t) where
-    pub by-turn : not (fit && v .sound && p .apart) ≡ false → decisionOf (input .station) (input .event) (seenAt n i p c) t ≡ decisionBy input v n p c
-    by-turn h = rw (upheld (fit && v .sound && p .apart) (inBounds n (input .station) && v .sound && p .apart) (rw bounds) h, ← turns, placed)
-
-    -- what is done has a rule
-    pub has-rule : t ≡ Done → input .station .limit < 256 → doable (input .event) (seenAt n i p c)
-    has-rule q l = done-doable (input .station) (input .event) (seenAt n i p c) (turns ∙ q) l
-
-    -- the place of a record that changes has room in a byte
-    pub there : There (seenAt n i p c) t
-    there = subst (There (seenAt n i p c)) turns (turn-there (input .station) (input .event) (seenAt n i p c))
-
--- ---- and of `picked`, by its test t
+-- ---- what the code of `picked` found comes to, by its test t
 module _ (input : Input) (v : Noted) (n : ℕ) (ys : List Call) (t : Bool) (test : t ≡ wantsColumn v input) where
   pub picked-wanted : T t → (h : List ℕ) → h ≡ columnOf n ys → (p : Pick) → p ≡ fromColumn input v h → p ≡ pickedOf input v n ys
   picked-wanted w h q p e = e ∙ rw (← test, is-true t w, q)

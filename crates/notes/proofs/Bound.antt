@@ -15,8 +15,8 @@ use Rattle.call.specs.declared.Call.{Call}
 use Rattle.call.specs.Record.{freeCall, requested}
 use Rattle.timed.specs.Timed.{t1}
 use Rattle.notes.specs.declared.Notes.{Notes}
-use Rattle.notes.specs.Notes.{Kept, notesOf, atLeast, never, quietUntil, soonestOf, refreshedOf}
-use Rattle.notes.proofs.Kept.{notes, all-lower}
+use Rattle.notes.specs.Notes.{notesOf, atLeast, never, quietUntil, soonestOf, refreshedOf}
+use Rattle.notes.proofs.Kept.{Kept, notes, all-lower}
 
 soonest-suc : (l : List ℕ) (i d : ℕ) → i < length l → soonestOf (take (suc i) l) ≡ min (soonestOf (take i l)) (getD l i d)
 unfolding soonestOf

@@ -1,4 +1,4 @@
--- What is kept beside a table after one store. Assumes nothing.
+-- What is kept beside a table, and what it is after one store. Assumes nothing.
 use Prim.Native.Nat.{ℕ, zero, suc, _+_, _*_, _-_, _^_, _≤_, _<_}
 use mathlib.Core.Bool.{Bool, true, false, _&&_}
 use mathlib.Core.List.{List, [], _∷_, map}
@@ -13,8 +13,15 @@ use Rattle.call.specs.declared.Call.{Call}
 use Rattle.call.specs.Record.{isFree, freeCall}
 use Rattle.notes.specs.declared.Notes.{Notes}
 use Rattle.notes.specs.Mask.{maskOf, weigh, over}
-use Rattle.notes.specs.Notes.{Kept, heldBy, quietUntil, atLeast, under, never, frees, columnOf}
+use Rattle.notes.specs.Notes.{heldBy, quietUntil, atLeast, under, never, frees, columnOf}
 use Rattle.notes.proofs.Mask.{mask-set, mask-has, mask-lt, over-next}
+
+-- what is kept from event to event: as summed up, but that the bound may lie below the least
+pub record Kept (calls : List Call) (d : Notes) : Type 0 where
+  pub mask : d .free ≡ maskOf isFree calls
+  pub column : d .dues ≡ map quietUntil calls
+  pub bound : all (atLeast (d .soon)) (d .dues) ≡ true
+  pub idents : d .held ≡ map heldBy calls
 
 pub map-set : {A B : Type 0} (f : A → B) (l : List A) (i : ℕ) (x : A) → map f (set l i x) ≡ set (map f l) i (f x)
 map-set f [] i x = refl

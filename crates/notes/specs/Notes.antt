@@ -1,12 +1,11 @@
--- What is noted of a table: free records, due times, open identifiers; and what a run keeps of that from event to event.
+-- What is noted of a table: free records, due times, open identifiers; and the draw among those.
 use Prim.Native.Nat.{ℕ, zero, suc, _+_, _-_, min}
-use mathlib.Core.Path.{_≡_}
-use mathlib.Core.Bool.{Bool, true, _||_}
+use mathlib.Core.Bool.{Bool, _||_}
 use mathlib.Core.List.{List, [], _∷_, _++_, map}
 use lib.ListN.{length, replicate}
 use lib.Dec.{ltb, leb, eqb}
 use Rattle.ground.specs.Choice.{when_then_else_}
-use Rattle.ground.specs.Lists.{all, any}
+use Rattle.ground.specs.Lists.{any}
 use Rattle.event.specs.declared.Event.{Event}
 use Rattle.event.specs.Kinds.{diverts}
 use Rattle.event.specs.Remote.{asks}
@@ -87,10 +86,3 @@ notesOf calls = record {
   dues = map quietUntil calls;
   held = map heldBy calls;
 }
-
--- what is kept from event to event: as summed up, but that the bound may lie below the least
-pub record Kept (calls : List Call) (d : Notes) : Type 0 where
-  pub mask : d .free ≡ maskOf isFree calls
-  pub column : d .dues ≡ map quietUntil calls
-  pub bound : all (atLeast (d .soon)) (d .dues) ≡ true
-  pub idents : d .held ≡ map heldBy calls

@@ -170,7 +170,8 @@ pub fn joined(held: &[u32; 64], p: Pendings) -> [u32; 68]
 }
 
 // "takes the first identifier from the next one on that no open request has": candidates in a row, each sought in the
-// column of the identifiers held; left by label when a candidate is free.
+// column of the identifiers held; left by label when a candidate is free. The scan goes to the end: without an exit the compiler
+// looks at several places at once.
 fn draw(held: &[u32; 68], next: u16) -> u16
     requires { ⌜ length (now held) ≡ 68 ⌝ }
     ensures { λ r. ⌜ r ≡ firstFreeIn 69 (now (held .entry)) next ⌝ }
@@ -179,15 +180,14 @@ fn draw(held: &[u32; 68], next: u16) -> u16
     let mut tries: usize = 0;
     'candidate: while tries < 69 {
         let wanted = (candidate as u32) + 1;
+        let mut taken = false;
         let mut i: usize = 0;
-        loop {
-            if i >= 68 {
-                break 'candidate;
-            }
-            if held[i] == wanted {
-                break;
-            }
+        while i < 68 {
+            taken = taken | (wanted == held[i]);
             i += 1;
+        }
+        if !taken {
+            break 'candidate;
         }
         candidate = identifier::next_after(candidate);
         tries += 1;

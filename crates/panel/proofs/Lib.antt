@@ -1,7 +1,5 @@
 pub mod Boards
 pub mod Playing
-pub mod Carried
-pub mod Begun
 pub mod InPlace
 pub mod Records
 pub mod Pieces

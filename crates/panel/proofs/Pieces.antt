@@ -10,38 +10,36 @@ use Rattle.event.specs.declared.Event.{Event}
 use Rattle.event.specs.Record.{eventsFrom}
 use Rattle.board.specs.declared.Board.{Board}
 use Rattle.board.specs.Board.{tableOf, soundBoard, stepBoard}
-use Rattle.board.proofs.Kept.{board-kept}
+use Rattle.board.proofs.Boards.{tested-short}
+use Rattle.board.proofs.Kept.{start-sound, board-kept}
 use Rattle.printout.specs.Line.{line, printed}
 use Rattle.printout.specs.Panel.{linesText, wholeEvents, cutText, panelText}
 use Rattle.panel.specs.Play.{boardAfter}
 use Rattle.panel.specs.Pieces.{unplayed, InTurns, over, onward, TurnsPrint}
-use Rattle.panel.proofs.Boards.{stays-long, lines-on}
+use Rattle.panel.proofs.Boards.{stays-long, lines-on, after-none, after-more}
 use Rattle.panel.proofs.Records.{events-taken, events-behind, events-split, events-long}
-use Rattle.panel.proofs.Begun.{start-sound}
 
 -- what a list of events leaves is sound, and its array as long
 after-sound : (b : Board) (es : List Event) → soundBoard b ≡ true → soundBoard (boardAfter b es) ≡ true
-unfolding boardAfter
-after-sound b [] h = h
-after-sound b (e ∷ es) h = after-sound (stepBoard b e .board) es (board-kept b e h)
+after-sound b [] h = rw (after-none b) h
+after-sound b (e ∷ es) h = rw (after-more b e es (tested-short b h)) (after-sound (stepBoard b e .board) es (board-kept b e h))
 
 after-long : (b : Board) (es : List Event) → soundBoard b ≡ true → length (b .calls) ≡ 64 → length (boardAfter b es .calls) ≡ 64
-unfolding boardAfter
-after-long b [] h l = l
-after-long b (e ∷ es) h l = after-long (stepBoard b e .board) es (board-kept b e h) (stays-long b h e l)
+after-long b [] h l = rw (after-none b) l
+after-long b (e ∷ es) h l = rw (after-more b e es (tested-short b h)) (after-long (stepBoard b e .board) es (board-kept b e h) (stays-long b h e l))
 
 -- the lines of two lists, one behind the other
 lines-append : (position : ℕ) (b : Board) (es fs : List Event) → soundBoard b ≡ true → length (b .calls) ≡ 64
     → linesText position (b .station) (tableOf b) (es ++ fs)
     ≡ linesText position (b .station) (tableOf b) es ++ linesText (position + length es) (boardAfter b es .station) (tableOf (boardAfter b es)) fs
-unfolding boardAfter printed flatten
-lines-append position b [] fs h l = rw add-zero
+unfolding printed flatten
+lines-append position b [] fs h l = rw (after-none b, add-zero)
 lines-append position b (e ∷ es) fs h l =
     let a = line position (stepBoard b e .answer) in
     let next = stepBoard b e .board in
     let more = linesText (suc position + length es) (boardAfter next es .station) (tableOf (boardAfter next es)) fs in
     let k : position + suc (length es) ≡ suc position + length es = omega arith in
-    rw k
+    rw (k, after-more b e es (tested-short b h))
     (lines-on b h e l position (es ++ fs)
     ∙ ap (λ t. a ++ t) (lines-append (suc position) next es fs (board-kept b e h) (stays-long b h e l))
     ∙ sym (append-assoc a (linesText (suc position) (next .station) (tableOf next) es) more)

@@ -2,7 +2,7 @@
 use Prim.Native.Nat.{ℕ, suc, _+_, _-_, _*_, _≤_, _<_}
 use mathlib.Core.Bool.{true}
 use mathlib.Core.List.{List, [], _∷_, _++_, append-assoc, append-nil, flatten}
-use mathlib.Core.Path.{_≡_, refl, _∙_}
+use mathlib.Core.Path.{_≡_, refl, sym, _∙_}
 use native.Mathlib.Nat.{add-zero, sub-zero}
 use native.Mathlib.Omega.{arith}
 use lib.ListN.{length}
@@ -10,6 +10,7 @@ use Rattle.event.specs.declared.Event.{Event}
 use Rattle.event.specs.Record.{eventAt, eventsFrom}
 use Rattle.board.specs.declared.Board.{Board}
 use Rattle.board.specs.Board.{Stepped, tableOf, soundBoard, stepBoard}
+use Rattle.board.proofs.Boards.{tested-short}
 use Rattle.board.proofs.Kept.{board-kept}
 use Rattle.printout.specs.Line.{line, printed}
 use Rattle.printout.specs.Panel.{linesText}
@@ -17,7 +18,7 @@ use Rattle.printout.specs.Written.{Written}
 use Rattle.printout.proofs.Texts.{and-then}
 use Rattle.printout.proofs.Pieces.{unwritten}
 use Rattle.panel.specs.Play.{boardAfter}
-use Rattle.panel.proofs.Boards.{stays-long, lines-on}
+use Rattle.panel.proofs.Boards.{stays-long, lines-on, after-none, after-more}
 
 -- after i of n events
 pub record Playing (b : Board) (position : ℕ) (bytes old : List ℕ) (n : ℕ) (board : Board) (out : List ℕ) (at i : ℕ) : Type 0 where
@@ -57,7 +58,6 @@ module _ (b : Board) (position : ℕ) (bytes old : List ℕ) (n : ℕ) where
     pub playing-next : (e : Event) (x : Stepped) (out′ : List ℕ) (at′ : ℕ) → e ≡ eventAt bytes (i * 24) → x ≡ stepBoard board e
         → Written (line (position + i) (x .answer)) at out out′ at′ → at′ ≤ at + 67 → n * 96 ≤ length old → length out′ ≡ length out
         → Playing b position bytes old n (x .board) out′ at′ (i + 1)
-    unfolding boardAfter
     playing-next e x out′ at′ p q t m r s = record {
       upto = omega arith;
       long = rw q (stays-long board (w .sound) e (w .long));
@@ -70,7 +70,9 @@ module _ (b : Board) (position : ℕ) (bytes old : List ℕ) (n : ℕ) where
           let k : position + (i + 1) ≡ suc (position + i) = omega arith in
           let rest = eventsFrom bytes ((i + 1) * 24) (n - (i + 1)) in
           rw (q, p, append-assoc, k, ← lines-on board (w .sound) (eventAt bytes (i * 24)) (w .long) (position + i) rest, ← events-next i h) (w .lines);
-      left = rw (q, p) (rw (events-next i h) at (w .left));
+      left =
+          let rest = eventsFrom bytes ((i + 1) * 24) (n - (i + 1)) in
+          rw (q, p) (sym (after-more board (eventAt bytes (i * 24)) rest (tested-short board (w .sound))) ∙ rw (events-next i h) at (w .left));
     }
 
   -- at the end nothing is left
@@ -84,5 +86,4 @@ module _ (b : Board) (position : ℕ) (bytes old : List ℕ) (n : ℕ) where
     played-text = rw (← w .lines, none-left, append-nil) (w .text)
 
     pub played-board : board ≡ boardAfter b (eventsFrom bytes 0 n)
-    unfolding boardAfter
-    played-board = rw none-left at (w .left)
+    played-board = sym (after-none board) ∙ rw none-left at (w .left)

@@ -5,9 +5,9 @@ use mathlib.Core.List.{List, _++_}
 use lib.ListN.{length, take, drop}
 use Rattle.event.specs.Record.{eventsFrom}
 use Rattle.board.specs.declared.Board.{Board}
-use Rattle.board.specs.Board.{tableOf}
+use Rattle.board.specs.Board.{startBoard, tableOf}
 use Rattle.printout.specs.Panel.{linesText, cutText, panelText}
-use Rattle.panel.specs.Play.{startBoard, boardAfter}
+use Rattle.panel.specs.Play.{boardAfter}
 
 -- what is left of the input behind n records that were played: what a turn saw of the next one stays
 abbrev pub unplayed : ℕ → List ℕ → List ℕ

@@ -2,27 +2,20 @@
 use Prim.Native.Nat.{ℕ, _+_, _*_, _/_, min}
 use mathlib.Core.Path.{_≡_}
 use mathlib.Core.Bool.{true}
-use mathlib.Core.List.{List, [], _∷_}
-use lib.ListN.{length, replicate}
+use mathlib.Core.List.{List}
+use lib.ListN.{length}
 use Rattle.event.specs.declared.Event.{Event}
 use Rattle.event.specs.Record.{eventsFrom}
-use Rattle.call.specs.Record.{freeCall}
-use Rattle.notice.specs.Notice.{marked}
-use Rattle.station.specs.Station.{freshStation}
+use Rattle.station.specs.Step.{run}
 use Rattle.board.specs.declared.Board.{Board}
-use Rattle.board.specs.Board.{tableOf, soundBoard, stepBoard}
+use Rattle.board.specs.Board.{tableOf, boardWith, soundBoard}
 use Rattle.printout.specs.Panel.{linesText}
 use Rattle.printout.specs.Written.{Written}
 use Rattle.panel.specs.declared.Played.{Played}
 
--- "starts with 64 free records and a fresh station of limit 15"
-abbrev pub startBoard : Board
-startBoard = record { station = freshStation 15 marked marked; len = 64; calls = replicate 64 freeCall }
-
--- the board that a list of events leaves
+-- the board that a list of events leaves, where it holds at most 64 records: what the definition's run leaves of its table
 unfoldable pub boardAfter : Board → List Event → Board
-boardAfter b [] = b
-boardAfter b (e ∷ rest) = boardAfter (stepBoard b e .board) rest
+boardAfter b events = let r = run (b .station) (tableOf b) events in boardWith b (r .station) (r .calls)
 
 -- room in the buffer for one line
 abbrev pub lineRoom : ℕ

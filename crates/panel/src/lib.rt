@@ -1,11 +1,10 @@
 // The panel: a piece of the input played into a piece of the printout.
 ghost use mathlib.Core.Path.{_≡_};
 ghost use mathlib.Core.Bool.{true};
-ghost use Prim.Native.Nat.{_+_, _/_, _^_, _≤_, _<_, min};
-ghost use lib.ListN.{length, drop};
-ghost use lib.Seq.{paste};
+ghost use Prim.Native.Nat.{_+_, _/_, _^_, _<_, min};
+ghost use lib.ListN.{length};
 ghost use Rattle.board.specs.Board.{soundBoard};
-ghost use Rattle.panel.specs.Play.{startBoard, Plays};
+ghost use Rattle.panel.specs.Play.{Plays};
 use board::Board;
 use turn::Seen;
 use turn::Turn;
@@ -16,21 +15,6 @@ pub struct Played {
     pub position: u64,
     pub used: usize,
     pub written: usize,
-}
-
-// 64 free records and a fresh station of limit 15 with both marks.
-pub fn start() -> Board
-    ensures { λ r. ⌜ r ≡ startBoard ⌝ }
-{
-    let made = station::fresh(15, 1, 1);
-    let station = made.station;
-    let free = call::free_call();
-    let calls = [free; 64];
-    Board {
-        station: station,
-        len: 64,
-        calls: calls,
-    }
 }
 
 fn least(a: usize, b: usize) -> usize
@@ -107,17 +91,5 @@ pub fn play(b: Board, position: u64, bytes: &[u8], out: &mut [u8]) -> Played
         position: position + n as u64,
         used: n * 24,
         written: at,
-    }
-}
-
-// Moves bytes of a buffer to its start: those of a record that the next piece completes.
-pub fn carry(buffer: &mut [u8], from: usize, count: usize)
-    requires { ⌜ from + count ≤ length (now buffer) ⌝ }
-    ensures { λ _. ⌜ now (buffer .exit) ≡ paste (now (buffer .entry)) 0 (drop from (now (buffer .entry))) count ⌝ }
-{
-    let mut i: usize = 0;
-    while i < count {
-        buffer[i] = buffer[from + i];
-        i += 1;
     }
 }

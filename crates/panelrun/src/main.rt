@@ -72,7 +72,7 @@ fn turn(board: Board, position: u64, held: usize, input: &mut [u8], output: &mut
     let next = played.board;
     let rest = end - played.used;
     if io::write_all(STDOUT_FILENO, &output[..played.written]) {
-        panel::carry(input, played.used, rest);
+        ground::carry(input, played.used, rest);
         return Run {
             board: next,
             position: played.position,
@@ -99,7 +99,7 @@ fn print_cut(count: usize) {
 }
 
 fn main() {
-    let mut board = panel::start();
+    let mut board = board::start();
     let mut position: u64 = 0;
     let mut held: usize = 0;
     let mut input = io::large_buffer();

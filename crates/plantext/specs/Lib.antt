@@ -1,4 +1,3 @@
 pub mod Text
 pub mod Statements
-pub mod Lines
 pub mod Form

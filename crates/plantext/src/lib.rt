@@ -1,11 +1,9 @@
-// The text of a plan, read byte by byte into a lent plan; `answer` writes what its rehearsal says.
+// The text of a plan, read byte by byte into a lent plan.
 ghost use mathlib.Core.Path.{_≡_};
 ghost use Prim.Native.Nat.{_+_, _≤_};
 ghost use lib.ListN.{length};
 ghost use Rattle.printout.specs.Written.{wrote};
 ghost use Rattle.plantext.specs.Text.{beginning, onward, numbersBefore, startAfter, atFault, digitRead, spaceRead, lineRead, wholeLine, newlineRead, byteRead, markByte, packed, endsPanel, stored, textRead, planAfter, closing, panelsRead, numbersLent};
-
-pub mod answer;
 
 // What is known behind a piece of the text. `line` is the line that is being read, from 1; `numbers` counts its numbers that are
 // whole, and `value` is the one that is being read, once its first digit is there (`begun`). Each whole number moves the ones

@@ -47,7 +47,7 @@ fn turn(r: Reading, plan: &mut [u16], input: &mut [u8]) -> Run {
 
 fn print_rehearsal(plan: &[u16], start: u16) {
     let mut lines = io::buffer();
-    let n = plantext::answer::write_rehearsal(&mut lines, 0, plan, start);
+    let n = planlines::write_rehearsal(&mut lines, 0, plan, start);
     if !io::write_all(STDOUT_FILENO, &lines[..n]) {
         os::fail(b"rehearse: writing standard output");
     }
@@ -55,7 +55,7 @@ fn print_rehearsal(plan: &[u16], start: u16) {
 
 fn tell_fault(line: usize) {
     let mut text = [0u8; 64];
-    let n = plantext::answer::write_fault(&mut text, 0, line);
+    let n = planlines::write_fault(&mut text, 0, line);
     io::write_all(STDERR_FILENO, &text[..n]);
 }
 

@@ -1,5 +1,5 @@
 -- A run by a step: one event more, and the test of the table made once. Assumes nothing.
-use Prim.Native.Nat.{ℕ, zero, suc, _+_, _*_, _/_, _%_}
+use Prim.Native.Nat.{ℕ, zero, suc, _+_, _*_, _%_}
 use mathlib.Core.Bool.{Bool, true, false}
 use mathlib.Core.List.{List, [], _∷_}
 use mathlib.Core.Path.{_≡_, refl, sym, ap, _∙_}
@@ -16,7 +16,22 @@ use Rattle.board.proofs.Boards.{refusedBoard}
 use Rattle.board.proofs.Steps.{tested-step, unsound-step}
 use Rattle.board.proofs.Kept.{board-kept}
 use Rattle.runs.specs.declared.Ran.{Ran}
-use Rattle.runs.specs.Run.{ran, counted, runBy, runFirst, runBoard}
+use Rattle.runs.specs.Run.{ran}
+
+-- one event of a run: it is counted as done or as refused
+abbrev pub counted : Ran → Stepped → Ran
+counted r x =
+    when eqb (x .answer .code) 0 then ran (r .done + 1) (r .refused) (r .cut) (x .board) else
+    ran (r .done) (r .refused + 1) (r .cut) (x .board)
+
+-- the events of a list, one after the other, by a step on the board: how the loop goes
+unfoldable pub runBy : (Board → Event → Stepped) → Ran → List Event → Ran
+runBy f r [] = r
+runBy f r (e ∷ rest) = runBy f (counted r (f (r .board) e)) rest
+
+-- the first n records of 24 bytes
+abbrev pub runFirst : (Board → Event → Stepped) → Board → List ℕ → ℕ → Ran
+runFirst f b bytes n = runBy f (ran 0 0 (length bytes % 24) b) (eventsFrom bytes 0 n)
 
 module _ (f : Board → Event → Stepped) where
   by-more : (r : Ran) (bytes : List ℕ) (i n : ℕ)

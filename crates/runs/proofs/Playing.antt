@@ -18,8 +18,8 @@ use Rattle.board.specs.Board.{stepSoundBoard}
 use Rattle.board.proofs.Boards.{refusedBoard, doneBoard, farBoard}
 use Rattle.board.proofs.Beside.{Beside, boardNow}
 use Rattle.runs.specs.declared.Ran.{Ran}
-use Rattle.runs.specs.Run.{ran, runFirst}
-use Rattle.runs.proofs.Folds.{run-step}
+use Rattle.runs.specs.Run.{ran}
+use Rattle.runs.proofs.Folds.{runFirst, run-step}
 
 -- after k events
 pub record Playing (b : Board) (bytes : List ℕ) (calls : List Call) (s : Station) (d : Notes) (done refused k : ℕ) : Type 0 where

@@ -1,10 +1,9 @@
 // Many events, played in place: the table is tested and summed up once, then it stays in a local array, and what an event calls
 // takes one record of it.
 ghost use mathlib.Core.Path.{_≡_};
-ghost use Prim.Native.Nat.{ℕ, _+_, _/_, _≤_, _<_};
-ghost use lib.ListN.{length};
-ghost use Rattle.board.specs.Board.{stepSoundBoard};
-ghost use Rattle.runs.specs.Run.{runFirst, runBoard};
+ghost use mathlib.Core.Bool.{true};
+ghost use Rattle.board.specs.Board.{soundBoard};
+ghost use Rattle.runs.specs.Run.{runBoard};
 use board::Board;
 use turn::Seen;
 use turn::Turn;
@@ -20,8 +19,8 @@ pub struct Ran {
 
 // The whole records, where the table was tested: for each find the place, read, decide, store.
 fn run_tested(b: Board, events: &[u8]) -> Ran
-    requires { ⌜ b .len ≤ 64 ⌝ }
-    ensures { λ r. ⌜ r ≡ runFirst stepSoundBoard b (now (events .entry)) (length (now (events .entry)) / 24) ⌝ }
+    requires { ⌜ soundBoard b ≡ true ⌝ }
+    ensures { λ r. ⌜ r ≡ runBoard b (now (events .entry)) ⌝ }
 {
     let mut calls = b.calls;
     let mut s = b.station;

@@ -263,6 +263,6 @@ pub fn in_bounds(len: usize, s: Station) -> bool
     let remote = s.remote;
     let limit = s.limit;
     let next = s.next;
-    let held = follow::remote_holds(s.last, remote);
+    let held = holding::remote_holds(s.last, remote);
     ((1 <= len) & (len <= 64)) & (((1 <= limit) & (limit <= 15)) & !(next == 0) & held)
 }

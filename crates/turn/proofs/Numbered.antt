@@ -13,7 +13,7 @@ use Rattle.ground.proofs.Bools.{by-cases, upheld}
 use Rattle.ground.proofs.Walks.{both, or-false}
 use Rattle.event.specs.declared.Event.{Event}
 use Rattle.event.specs.Kinds.{opens, ofIncoming, ofOutgoing, ends, clock}
-use Rattle.event.specs.Remote.{ofRemote, remoteFields}
+use Rattle.event.specs.Remote.{ofRemote}
 use Rattle.event.specs.WellMade.{wellMade}
 use Rattle.call.specs.declared.Call.{Call}
 use Rattle.call.specs.Record.{isFree}
@@ -24,8 +24,8 @@ use Rattle.station.specs.Table.{at}
 use Rattle.station.specs.Refusals.{early, illMade, otherIdentifier, foreignAnswer, overLimit, pendingAlready, refusalOnSound}
 use Rattle.event.proofs.Groups.{of-no-call, opener, no-opener, no-incoming, no-outgoing}
 use Rattle.turn.specs.declared.Seen.{Seen}
-use Rattle.turn.specs.Turn.{beyond, noRecord, numberOf, farNumber}
-use Rattle.turn.proofs.Sorts.{kind-low, far-made, names}
+use Rattle.turn.specs.Turn.{beyond, noRecord, numberOf}
+use Rattle.turn.proofs.Sorts.{kind-low, names}
 
 -- two tests with one number
 either : (a b : Bool) (x y : ℕ) → (when a || b then x else y) ≡ (when a then x else when b then x else y)
@@ -110,10 +110,9 @@ module _ (s : Station) (e : Event) (far : Bool) (c : Call) (full : Bool) where
           let n = of-no-call e (leb-true 16 (e .kind) (both (leb 16 (e .kind)) (leb (e .kind) 31) o .0)) in
           simp (le-ltb (e .time) (s .last) h, w, n .opens, n .incoming, n .outgoing, n .diverts, n .answers, n .ends)
 
--- the code's order, from 3 on: where the event finds no record of its own, its kind tells the number
+-- the code's order, from 4 on: where the event finds no record of its own, its kind tells the number
 abbrev pub later : Station → Event → Seen → ℕ
 later s e v =
-    when not (wellMade e) then 3 else
     when beyond v || wrongCall (v .call) e then noRecord (e .kind) else
     when basicForbids (v .call) e then 10 else
     when stateForbids (v .call) e then 11 else
@@ -149,7 +148,6 @@ module _ (s : Station) (e : Event) (v : Seen) where
   later-open w k =
       let l = kind-low e w in
       simp (
-        w,
         no-incoming e k,
         no-outgoing e (omega arith),
         or-false,
@@ -161,30 +159,25 @@ module _ (s : Station) (e : Event) (v : Seen) where
         ne-eqb (e .kind) 6 (λ q. omega arith),
       )
 
-  later-clock : wellMade e ≡ true → e .kind ≡ 10 → later s e v ≡ 0
+  later-clock : e .kind ≡ 10 → later s e v ≡ 0
   unfolding basicForbids stateForbids
-  later-clock w k = rw (w, k) (same-two (beyond v || false) 0)
+  later-clock k = rw k (same-two (beyond v || false) 0)
 
-  later-named : wellMade e ≡ true → 4 ≤ e .kind → (e .kind ≡ 10 → ⊥) → later s e v ≡ (when beyond v then 4 else namedRefusal s (v .call) e)
-  later-named w k o =
-      simp (w, le-ltb (e .kind) 1 (omega arith), le-ltb (e .kind) 4 k, ne-eqb (e .kind) 10 o)
+  later-named : 4 ≤ e .kind → (e .kind ≡ 10 → ⊥) → later s e v ≡ (when beyond v then 4 else namedRefusal s (v .call) e)
+  later-named k o =
+      simp (le-ltb (e .kind) 1 (omega arith), le-ltb (e .kind) 4 k, ne-eqb (e .kind) 10 o)
       (either (beyond v) (wrongCall (v .call) e) 4 _)
 
   -- kinds 1 to 15
-  pub number-later : (kind : ℕ) → (kind ≡ e .kind) × (kind ≤ 15) × (s .last ≤ e .time) → later s e v ≡ numberOf s e v
-  number-later kind (same, low, h) =
-      by-cases (wellMade e) (λ w.
+  pub number-later : (kind : ℕ) → (kind ≡ e .kind) × (kind ≤ 15) × (s .last ≤ e .time) × (wellMade e ≡ true) → later s e v ≡ numberOf s e v
+  number-later kind (same, low, h, w) =
       by-cases (ltb (e .kind) 4)
       (λ t. let k = ltb-true (e .kind) 4 t in later-open w k ∙ sym (by-seen s e v ∙ numbers-open s e (beyond v) (v .call) (beyond v) h w k)) (λ n.
       let k = ltb-false (e .kind) 4 n in
       by-cases (eqb (e .kind) 10)
-      (λ t. let q = eqb-true (e .kind) 10 t in later-clock w q ∙ sym (by-seen s e v ∙ numbers-clock s e (beyond v) (v .call) (beyond v) h w q))
-      (λ f. let q = eqb-false (e .kind) 10 f in later-named w k q ∙ sym (by-seen s e v ∙ numbers-named s e (beyond v) (v .call) (beyond v) h w k (omega (arith, same, low)) q))))
-      (λ i. rw i (sym (by-seen s e v ∙ numbers-ill s e (beyond v) (v .call) (beyond v) h i)))
+      (λ t. let q = eqb-true (e .kind) 10 t in later-clock q ∙ sym (by-seen s e v ∙ numbers-clock s e (beyond v) (v .call) (beyond v) h w q))
+      (λ f. let q = eqb-false (e .kind) 10 f in later-named k q ∙ sym (by-seen s e v ∙ numbers-named s e (beyond v) (v .call) (beyond v) h w k (omega (arith, same, low)) q)))
 
   -- kinds 16 to 31
-  pub number-far : s .last ≤ e .time → ofRemote e ≡ true → farNumber s e ≡ numberOf s e v
-  number-far h o =
-      by-cases (remoteFields e)
-      (λ f. rw f (sym (by-seen s e v ∙ numbers-far s e (beyond v) (v .call) (beyond v) h (far-made e o ∙ f) o)))
-      (λ f. rw f (sym (by-seen s e v ∙ numbers-ill s e (beyond v) (v .call) (beyond v) h (far-made e o ∙ f))))
+  pub number-far : s .last ≤ e .time → wellMade e ≡ true → ofRemote e ≡ true → remoteRefusal (s .remote) e ≡ numberOf s e v
+  number-far h w o = sym (by-seen s e v ∙ numbers-far s e (beyond v) (v .call) (beyond v) h w o)

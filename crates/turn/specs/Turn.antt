@@ -8,7 +8,7 @@ use lib.ListN.{length, set}
 use Rattle.ground.specs.Choice.{when_then_else_}
 use Rattle.event.specs.declared.Event.{Event}
 use Rattle.event.specs.Kinds.{OpenOutgoing, UserAlerted, DivertCall, Clock, opens, ofIncoming, ofOutgoing, ends, clock, diverts}
-use Rattle.event.specs.Remote.{asks, ofRemote, remoteFields}
+use Rattle.event.specs.Remote.{asks, ofRemote}
 use Rattle.identifier.specs.Identifier.{after}
 use Rattle.call.specs.declared.Call.{Call}
 use Rattle.call.specs.declared.Effect.{Effect}
@@ -17,7 +17,7 @@ use Rattle.call.specs.Act.{act}
 use Rattle.remote.specs.declared.Remote.{Remote}
 use Rattle.remote.specs.declared.Moved.{Moved}
 use Rattle.remote.specs.Rules as far
-use Rattle.remote.specs.Rules.{noneWaits, remoteRefusal}
+use Rattle.remote.specs.Rules.{noneWaits}
 use Rattle.station.specs.declared.Station.{Station}
 use Rattle.station.specs.Table.{at, place, identifierFor}
 use Rattle.station.specs.Refusals.{notSound, early, illMade, foreignAnswer, overLimit, pendingAlready}
@@ -51,10 +51,6 @@ numberOf s e v =
     when opens e && beyond v then 8 else
     when pendingAlready s e then 9 else
     0
-
--- of kinds 16 to 31, by what the station holds: 3, or 11, 6 and 9
-abbrev pub farNumber : Station → Event → ℕ
-farNumber s e = when not (remoteFields e) then 3 else remoteRefusal (s .remote) e
 
 -- the number where an event finds no record of its own, by its kind: "8: kind 1 to 3: no free record", "4: call past the table's end"
 abbrev pub noRecord : ℕ → ℕ

@@ -1,9 +1,11 @@
 // One event on what a driver saw of its table: the numbers in their order, and what is done. No table stands here, so that
 // every driver has this one decision.
 ghost use mathlib.Core.Path.{_≡_};
+ghost use mathlib.Core.Bool.{true};
 ghost use Prim.Native.Nat.{ℕ, _≤_};
+ghost use Rattle.event.specs.WellMade.{wellMade};
 ghost use Rattle.station.specs.Step.{answerOf, farAnswer};
-ghost use Rattle.turn.specs.Turn.{placeOf, noRecord, numberOf, farNumber, turnOf, actedOf, doable, stationOn, stationFar};
+ghost use Rattle.turn.specs.Turn.{placeOf, noRecord, numberOf, turnOf, actedOf, doable, stationOn, stationFar};
 use call::Call;
 use call::Effect;
 use event::Event;
@@ -54,18 +56,15 @@ fn no_record(kind: u8) -> u8
     }
 }
 
-// Numbers 3, 4, 10, 11, 6, 7 and 8 of kinds 1 to 15; 0 is done. Tested in the page's order; 8 is given where 4 is, by the kind: an open has none
-// of the others behind 3. The kind comes by itself: as a literal it lets the compiler make each arm of `number_by_kind` a test of its own.
+// Numbers 4, 10, 11, 6, 7 and 8 of a well-made event of kinds 1 to 15; 0 is done. Tested in the page's order; 8 is given where 4 is, by the kind: an open
+// has none of the others. The kind comes by itself: as a literal it lets the compiler make each arm of `number_by_kind` a test of its own, as long as
+// what is left of this function for one kind is small. So the fields are tested before it.
 fn number(kind: u8, s: Station, e: Event, seen: Seen) -> u8
-    requires { ⌜ (kind ≡ e .kind) × (kind ≤ 15) × (s .last ≤ e .time) ⌝ }
+    requires { ⌜ (kind ≡ e .kind) × (kind ≤ 15) × (s .last ≤ e .time) × (wellMade e ≡ true) ⌝ }
     ensures { λ r. ⌜ r ≡ numberOf s e seen ⌝ }
 {
     let c = seen.call;
     let beyond = seen.len <= seen.place;
-    let made = event::well_made(kind, e);
-    if !made {
-        return 3;
-    }
     let wrong = refusal::wrong_call(kind, c, e);
     if beyond | wrong {
         return no_record(kind);
@@ -83,22 +82,10 @@ fn number(kind: u8, s: Station, e: Event, seen: Seen) -> u8
     0
 }
 
-// Numbers 3, 11, 6 and 9 of kinds 16 to 31; 0 is done.
-fn far_number(s: Station, e: Event) -> u8
-    ensures { λ r. ⌜ r ≡ farNumber s e ⌝ }
-{
-    let held = s.remote;
-    let made = event::remote_fields(e);
-    if made {
-        follow::remote_refusal(held, e)
-    } else {
-        3
-    }
-}
-
-// The number by the event's kind, a literal in each arm of kinds 1 to 15.
+// The number of a well-made event by its kind, a literal in each arm of kinds 1 to 15; those of 16 to 31 have 11, 6 and 9. A well-made event has
+// no other kind: the last arm is never taken.
 fn number_by_kind(s: Station, e: Event, seen: Seen) -> u8
-    requires { ⌜ s .last ≤ e .time ⌝ }
+    requires { ⌜ (s .last ≤ e .time) × (wellMade e ≡ true) ⌝ }
     ensures { λ r. ⌜ r ≡ numberOf s e seen ⌝ }
 {
     let kind = e.kind;
@@ -118,7 +105,7 @@ fn number_by_kind(s: Station, e: Event, seen: Seen) -> u8
         13 => number(13, s, e, seen),
         14 => number(14, s, e, seen),
         15 => number(15, s, e, seen),
-        16..=31 => far_number(s, e),
+        16..=31 => holding::remote_refusal(s.remote, e),
         _ => 3,
     }
 }
@@ -127,12 +114,16 @@ fn number_by_kind(s: Station, e: Event, seen: Seen) -> u8
 pub fn turned(s: Station, e: Event, seen: Seen) -> Turn
     ensures { λ r. ⌜ r ≡ turnOf s e seen ⌝ }
 {
+    let kind = e.kind;
     if e.time < s.last {
         return Turn::Refused(2);
     }
+    let made = event::well_made(kind, e);
+    if !made {
+        return Turn::Refused(3);
+    }
     let code = number_by_kind(s, e, seen);
     if code == 0 {
-        let kind = e.kind;
         let remote = (16 <= kind) & (kind <= 31);
         let none_due = seen.len <= seen.place;
         if remote | none_due {

@@ -17,6 +17,10 @@ dli1Unused d = eqb (d .reason) 0 && eqb (d .option) 0 && eqb (d .number) 0
 abbrev pub dli1Word : Dli1 → ℕ
 dli1Word d = d .reason + 256 * d .option + 65536 * d .number
 
+-- two side by side: 0 exactly where both are unused
+abbrev pub pairWord : Dli1 → Dli1 → ℕ
+pairWord a b = a .reason + 256 * a .option + 65536 * a .number + 4294967296 * b .reason + 1099511627776 * b .option + 281474976710656 * b .number
+
 -- "the first cfnr"
 abbrev pub firstHolds : Dli1 → Bool
 firstHolds d = eqb (d .reason) cfnr && leb (d .option) withNumber && not (eqb (d .number) 0)

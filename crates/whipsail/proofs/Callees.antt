@@ -29,22 +29,22 @@ use denote.Triple.Clauses.{ensured, lasts}
 use denote.Triple.Walked.{says}
 use Rattle.call.specs.declared.Call.{Call}
 use Rattle.call.proofs.Call.Laws as S′
-use Rattle.lent.specs.declared.Input.{Input}
-use Rattle.lent.specs.declared.Decision.{Decision}
-use Rattle.lent.specs.declared.Reply.{Reply}
-use Rattle.lent.specs.declared.Change.{Change}
-use Rattle.lent.specs.Lent.{decisionOn}
-use Rattle.lent.proofs.Input as I
-use Rattle.lent.proofs.Input.Laws as I′
-use Rattle.lent.proofs.Decision as D
-use Rattle.lent.proofs.Decision.Laws as D′
-use Rattle.lent.proofs.Reply as N
-use Rattle.lent.proofs.Reply.Laws as N′
+use Rattle.decision.specs.declared.Input.{Input}
+use Rattle.decision.specs.declared.Decision.{Decision}
+use Rattle.decision.specs.declared.Reply.{Reply}
+use Rattle.decision.specs.declared.Change.{Change}
+use Rattle.decision.specs.Decision.{decisionOn}
+use Rattle.decision.proofs.Input as I
+use Rattle.decision.proofs.Input.Laws as I′
+use Rattle.decision.proofs.Decision as D
+use Rattle.decision.proofs.Decision.Laws as D′
+use Rattle.decision.proofs.Reply as N
+use Rattle.decision.proofs.Reply.Laws as N′
 use Rattle.lent.proofs.looked as looked
-use Rattle.lent.proofs.Change as K
-use Rattle.lent.proofs.Change.Laws as K′
-use Rattle.lent.proofs.change_of as change
-use Rattle.lent.proofs.reply_of as reply
+use Rattle.decision.proofs.Change as K
+use Rattle.decision.proofs.Change.Laws as K′
+use Rattle.decision.proofs.change_of as change
+use Rattle.decision.proofs.reply_of as reply
 use Rattle.slice.proofs.Row.{R, makes, is-lowered}
 use Rattle.slice.proofs.settle as settle
 

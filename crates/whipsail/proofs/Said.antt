@@ -7,10 +7,10 @@ use lib.ListN.{length}
 use Rattle.call.specs.declared.Call.{Call}
 use Rattle.station.specs.Step.{Outcome}
 use Rattle.slice.specs.Table.{settledAt}
-use Rattle.lent.specs.declared.Input.{Input}
-use Rattle.lent.specs.declared.Decision.{Decision}
-use Rattle.lent.specs.Lent.{decisionOn, outcomeBy}
-use Rattle.lent.proofs.Laws.{decision-within, decision-steps}
+use Rattle.decision.specs.declared.Input.{Input}
+use Rattle.decision.specs.declared.Decision.{Decision}
+use Rattle.decision.specs.Decision.{decisionOn, outcomeBy}
+use Rattle.decision.proofs.Laws.{decision-within, decision-steps}
 use Rattle.whipsail.specs.Lent.{outcome, replyOf, tableAfter}
 
 -- the decision on the table that is lent

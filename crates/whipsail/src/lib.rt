@@ -7,9 +7,9 @@ ghost use Rattle.rehearsal.specs.Rehearsal.{rehearsalOf};
 ghost use Rattle.whipsail.specs.Lent.{replyOf, tableAfter};
 ghost use Rattle.whipsail.specs.Read.{notRead, readAt};
 use call::Call;
+use decision::Input;
+use decision::Reply;
 use event::Event;
-use lent::Input;
-use lent::Reply;
 use rehearsal::Rehearsed;
 use station::Made;
 use station::Station;
@@ -94,9 +94,9 @@ pub extern "C" fn whipsail_lent_step(table: &mut [Call], input: Input) -> Reply
     ensures { λ r. ⌜ (r ≡ replyOf (now (table .entry)) input) × (now (table .exit) ≡ tableAfter (now (table .entry)) input) ⌝ }
 {
     let out = lent::looked(table, input);
-    let change = lent::change_of(out);
+    let change = decision::change_of(out);
     slice::settle(table, change.place, change.count, change.call);
-    lent::reply_of(out)
+    decision::reply_of(out)
 }
 
 // Who rings if a call is offered to this panel of the plan first: four numbers for each panel.

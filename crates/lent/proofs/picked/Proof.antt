@@ -45,27 +45,27 @@ use Rattle.notes.specs.Notes.{columnOf}
 use Rattle.survey.proofs.Cells.{AU, cells, atyped-at}
 use Rattle.survey.proofs.Noted as N
 use Rattle.survey.proofs.Noted.Laws as N′
-use Rattle.lent.specs.declared.Input.{Input}
-use Rattle.lent.specs.declared.Pick.{Pick}
-use Rattle.lent.specs.Lent.{wantsColumn, fromColumn, asItStands, pickedOf}
-use Rattle.lent.proofs.Input as I
-use Rattle.lent.proofs.Input.Laws as I′
-use Rattle.lent.proofs.Pick as P
-use Rattle.lent.proofs.Pick.Laws as P′
+use Rattle.decision.specs.declared.Input.{Input}
+use Rattle.decision.specs.declared.Pick.{Pick}
+use Rattle.decision.specs.Decision.{wantsColumn, fromColumn, asItStands, pickedOf}
+use Rattle.decision.proofs.Input as I
+use Rattle.decision.proofs.Input.Laws as I′
+use Rattle.decision.proofs.Pick as P
+use Rattle.decision.proofs.Pick.Laws as P′
 use Rattle.lent.proofs.Laws.{picked-wanted, picked-else}
 use Rattle.lent.proofs.Callees.{slice-at, IsI, IsN, IsP, spelledP, Wants, Column, FromColumn, Stands, wants-of, column-of, from-column-of, stands-of, to-wants, to-column, to-from-column, to-stands, goes-wants, goes-column, goes-from-column, goes-stands}
-use Rattle.lent.proofs.wants_column as wants
-use Rattle.lent.proofs.wants_column.Symbol as wants-def
-use Rattle.lent.proofs.wants_column.Met as wants-thm
+use Rattle.decision.proofs.wants_column as wants
+use Rattle.decision.proofs.wants_column.Symbol as wants-def
+use Rattle.decision.proofs.wants_column.Met as wants-thm
 use Rattle.survey.proofs.column as column
 use Rattle.survey.proofs.column.Symbol as column-def
 use Rattle.survey.proofs.column.Met as column-thm
-use Rattle.lent.proofs.from_column as from-column
-use Rattle.lent.proofs.from_column.Symbol as from-column-def
-use Rattle.lent.proofs.from_column.Met as from-column-thm
-use Rattle.lent.proofs.as_it_stands as stands
-use Rattle.lent.proofs.as_it_stands.Symbol as stands-def
-use Rattle.lent.proofs.as_it_stands.Met as stands-thm
+use Rattle.decision.proofs.from_column as from-column
+use Rattle.decision.proofs.from_column.Symbol as from-column-def
+use Rattle.decision.proofs.from_column.Met as from-column-thm
+use Rattle.decision.proofs.as_it_stands as stands
+use Rattle.decision.proofs.as_it_stands.Symbol as stands-def
+use Rattle.decision.proofs.as_it_stands.Met as stands-thm
 use Rattle.lent.proofs.picked.Key.{name as #lent·picked}
 use Rattle.lent.proofs.picked as picked′
 use Rattle.lent.proofs.picked.Statement as stated
@@ -194,7 +194,7 @@ picked-spec 𝓤 H 𝓜 𝓖 𝓡 =
     entered 𝓤 H (tripleOf 𝓤 H (𝓖 .A) picked′.signature (picked′.spec 𝓤 H (𝓖 .A) (𝓜 .mem) (𝓡 .run)))
     (tables 𝓤 H 𝓜 𝓡 code.env .C) (tables 𝓤 H 𝓜 𝓡 code.env .Λ) #lent·picked code.function (code.unfolded 𝓤 H 𝓜 𝓡)
     (picked-meets 𝓤 H (𝓖 .A) (givenOf 𝓤 H 𝓜 𝓖) (𝓜 .mem) (𝓡 .run) (tablesOf 𝓤 H 𝓜 (tables 𝓤 H 𝓜 𝓡 code.env))
-    (cited 𝓤 H (Wants 𝓤 H (𝓖 .A) (𝓜 .mem) (𝓡 .run)) 𝓜 𝓡 code.env wants-def.name wants-def.routine code.calls-lent·wants-column (wants-thm.met 𝓤 H 𝓜 𝓖 𝓡))
+    (cited 𝓤 H (Wants 𝓤 H (𝓖 .A) (𝓜 .mem) (𝓡 .run)) 𝓜 𝓡 code.env wants-def.name wants-def.routine code.calls-decision·wants-column (wants-thm.met 𝓤 H 𝓜 𝓖 𝓡))
     (cited 𝓤 H (Column 𝓤 H (𝓖 .A) (𝓜 .mem) (𝓡 .run)) 𝓜 𝓡 code.env column-def.name column-def.routine code.calls-survey·column (column-thm.met 𝓤 H 𝓜 𝓖 𝓡))
-    (cited 𝓤 H (FromColumn 𝓤 H (𝓖 .A) (𝓜 .mem) (𝓡 .run)) 𝓜 𝓡 code.env from-column-def.name from-column-def.routine code.calls-lent·from-column (from-column-thm.met 𝓤 H 𝓜 𝓖 𝓡))
-    (cited 𝓤 H (Stands 𝓤 H (𝓖 .A) (𝓜 .mem) (𝓡 .run)) 𝓜 𝓡 code.env stands-def.name stands-def.routine code.calls-lent·as-it-stands (stands-thm.met 𝓤 H 𝓜 𝓖 𝓡)))
+    (cited 𝓤 H (FromColumn 𝓤 H (𝓖 .A) (𝓜 .mem) (𝓡 .run)) 𝓜 𝓡 code.env from-column-def.name from-column-def.routine code.calls-decision·from-column (from-column-thm.met 𝓤 H 𝓜 𝓖 𝓡))
+    (cited 𝓤 H (Stands 𝓤 H (𝓖 .A) (𝓜 .mem) (𝓡 .run)) 𝓜 𝓡 code.env stands-def.name stands-def.routine code.calls-decision·as-it-stands (stands-thm.met 𝓤 H 𝓜 𝓖 𝓡)))

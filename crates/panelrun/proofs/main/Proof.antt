@@ -6,7 +6,7 @@ use mathlib.Core.Path.{_≡_, sym, _∙_}
 use native.Mathlib.Omega.{arith}
 use lib.ListN.{length}
 use Rattle.board.specs.Board.{soundBoard}
-use Rattle.panel.proofs.Begun.{start-sound}
+use Rattle.board.proofs.Kept.{start-sound}
 use Rattle.panelrun.proofs.main.Statement.{statement}
 use Rattle.panelrun.proofs.main.Tie as tie
 

@@ -11,10 +11,11 @@ use Rattle.call.proofs.Read.{unread, read-any}
 use Rattle.notes.specs.Notes.{never}
 use Rattle.turn.specs.declared.Seen.{Seen}
 use Rattle.board.specs.Board.{stepSoundBoard, within}
-use Rattle.board.proofs.Boards.{within-small, within-near}
+use Rattle.board.proofs.Boards.{tested-short, within-small, within-near}
 use Rattle.board.proofs.Beside.{notes, boardNow, Beside, beside-start, beside-soon, beside-next, may-flip}
 use Rattle.board.proofs.Steps.{turn-refused, turn-far, turn-there, turn-doable, turn-done}
 use Rattle.runs.proofs.Folds.{first-none}
+use Rattle.runs.proofs.Bridge.{runs-tested}
 use Rattle.runs.proofs.Playing.{Playing, playing-refused, playing-far, playing-done}
 use Rattle.runs.proofs.run_tested.Statement.{statement}
 use Rattle.runs.proofs.run_tested.Tie as tie
@@ -42,14 +43,14 @@ place-on-requires c κs =
 mul-c : tie.Need-mul-c Inv-loop μ-loop
 mul-c c =
     let wi = c .within in
-    let m : wi .result < 64 = rw (wi .ensures) (within-small _ _ (c .before .before .before .before .before .before .before .before .before .before .before .before .pre)) in
+    let m : wi .result < 64 = rw (wi .ensures) (within-small _ _ (tested-short (c .before .before .before .before .before .before .before .before .before .before .before .before .args .b) (c .before .before .before .before .before .before .before .before .before .before .before .before .pre))) in
     let w = c .before .before .before .before .before .loop .inv .1 .beside in
     omega (arith, m, w .long, w .wide, w .broad)
 
 array-copy-out-c : tie.Need-array-copy-out-c Inv-loop μ-loop
 array-copy-out-c c =
     let wi = c .within in
-    let m : wi .result < 64 = rw (wi .ensures) (within-small _ _ (c .before .before .before .before .before .before .before .before .before .before .before .before .pre)) in
+    let m : wi .result < 64 = rw (wi .ensures) (within-small _ _ (tested-short (c .before .before .before .before .before .before .before .before .before .before .before .before .args .b) (c .before .before .before .before .before .before .before .before .before .before .before .before .pre))) in
     let w = c .before .before .before .before .before .loop .inv .1 .beside in
     omega (arith, m, w .long, w .wide, w .broad)
 
@@ -58,19 +59,20 @@ identifier-in-requires c κs =
     c .before .before .before .before .before .before .before .loop .inv .1 .beside .broad
 
 add-refused : tie.Need-add-refused Inv-loop μ-loop
-add-refused c = omega (arith, c .before .before .before .before .before .before .before .before .before .before .before .loop, c .before .before .before .before .before .before .before .before .before .before .loop-test, c .before .before .before .before .before .before .before .before .before .before .before .before .before .before .before .before .before .before .good, c .before .before .before .before .before .before .before .before .before .before .before .before .before .before .before .before .before .before .pre)
+add-refused c = omega (arith, c .before .before .before .before .before .before .before .before .before .before .before .loop, c .before .before .before .before .before .before .before .before .before .before .loop-test, c .before .before .before .before .before .before .before .before .before .before .before .before .before .before .before .before .before .before .good)
 
 refresh-requires : tie.Need-refresh-requires Inv-loop μ-loop
 refresh-requires c κs =
     c .before .before .before .before .before .before .before .before .before .before .before .before .loop .inv .1 .beside .wide
 
 add-done : tie.Need-add-done Inv-loop μ-loop
-add-done c = omega (arith, c .before .before .before .before .before .before .before .before .before .before .before .before .before .before .before .loop, c .before .before .before .before .before .before .before .before .before .before .before .before .before .before .loop-test, c .before .before .before .before .before .before .before .before .before .before .before .before .before .before .before .before .before .before .before .before .before .before .good, c .before .before .before .before .before .before .before .before .before .before .before .before .before .before .before .before .before .before .before .before .before .before .pre)
+add-done c = omega (arith, c .before .before .before .before .before .before .before .before .before .before .before .before .before .before .before .loop, c .before .before .before .before .before .before .before .before .before .before .before .before .before .before .loop-test, c .before .before .before .before .before .before .before .before .before .before .before .before .before .before .before .before .before .before .before .before .before .before .good)
 
 acted-requires : tie.Need-acted-requires Inv-loop μ-loop
 acted-requires c κs =
     let a = c .before .before .before .before .before .before .before .before .before .before .before .before .before .before .before .before .before .before in
     let b = a .args .b in
+    let h = tested-short b (a .pre) in
     let v = c .before .before .before .before .before .before .before .before .before .before .before .loop in
     let w = v .inv .1 in
     let ev = c .before .before .before .before .before .before .before .before .before .event-at in
@@ -83,20 +85,20 @@ acted-requires c κs =
     let late : e .time ≤ never = omega (arith, ev .ok) in
     let seen : Seen = record { len = b .len; place = pl .result; identifier = id .result; call = getD (v .calls) (wi .result) unread } in
     let near : pl .result < b .len → wi .result ≡ pl .result = λ l. wi .ensures ∙ within-near (pl .result) (b .len) l in
-    let there : pl .result < b .len → seen .call ≡ getD (v .calls) (pl .result) freeCall = λ l. ap (λ i. getD (v .calls) i unread) (near l) ∙ read-any (v .calls) (pl .result) unread freeCall (omega (arith, l, w .beside .long, a .pre)) in
-    turn-doable (boardNow b (v .s) (v .calls)) d e (a .pre) (w .beside) late seen refl (pl .ensures) there (id .ensures) (t .result) (t .ensures) (c .enum-told3 .given .1) (v .inv .2)
+    let there : pl .result < b .len → seen .call ≡ getD (v .calls) (pl .result) freeCall = λ l. ap (λ i. getD (v .calls) i unread) (near l) ∙ read-any (v .calls) (pl .result) unread freeCall (omega (arith, l, w .beside .long, h)) in
+    turn-doable (boardNow b (v .s) (v .calls)) d e h (w .beside) late seen refl (pl .ensures) there (id .ensures) (t .result) (t .ensures) (c .enum-told3 .given .1) (v .inv .2)
 
 mul-calls : tie.Need-mul-calls Inv-loop μ-loop
 mul-calls c =
     let wi = c .before .before .before .before .before .before .before .before .within in
-    let m : wi .result < 64 = rw (wi .ensures) (within-small _ _ (c .before .before .before .before .before .before .before .before .before .before .before .before .before .before .before .before .before .before .before .before .pre)) in
+    let m : wi .result < 64 = rw (wi .ensures) (within-small _ _ (tested-short (c .before .before .before .before .before .before .before .before .before .before .before .before .before .before .before .before .before .before .before .before .args .b) (c .before .before .before .before .before .before .before .before .before .before .before .before .before .before .before .before .before .before .before .before .pre))) in
     let w = c .before .before .before .before .before .before .before .before .before .before .before .before .before .loop .inv .1 .beside in
     omega (arith, m, w .long, w .wide, w .broad)
 
 array-set-from-calls : tie.Need-array-set-from-calls Inv-loop μ-loop
 array-set-from-calls c =
     let wi = c .before .before .before .before .before .before .before .before .within in
-    let m : wi .result < 64 = rw (wi .ensures) (within-small _ _ (c .before .before .before .before .before .before .before .before .before .before .before .before .before .before .before .before .before .before .before .before .pre)) in
+    let m : wi .result < 64 = rw (wi .ensures) (within-small _ _ (tested-short (c .before .before .before .before .before .before .before .before .before .before .before .before .before .before .before .before .before .before .before .before .args .b) (c .before .before .before .before .before .before .before .before .before .before .before .before .before .before .before .before .before .before .before .before .pre))) in
     let w = c .before .before .before .before .before .before .before .before .before .before .before .before .before .loop .inv .1 .beside in
     omega (arith, m, w .long, w .wide, w .broad)
 
@@ -104,6 +106,7 @@ flip-requires : tie.Need-flip-requires Inv-loop μ-loop
 flip-requires c κs =
     let a = c .before .before .before .before .before .before .before .before .before .before .before .before .before .before .before .before .before .before .before .before in
     let b = a .args .b in
+    let h = tested-short b (a .pre) in
     let v = c .before .before .before .before .before .before .before .before .before .before .before .before .before .loop in
     let w = v .inv .1 in
     let ev = c .before .before .before .before .before .before .before .before .before .before .before .event-at in
@@ -116,54 +119,55 @@ flip-requires c κs =
     let late : e .time ≤ never = omega (arith, ev .ok) in
     let seen : Seen = record { len = b .len; place = pl .result; identifier = id .result; call = getD (v .calls) (wi .result) unread } in
     let near : pl .result < b .len → wi .result ≡ pl .result = λ l. wi .ensures ∙ within-near (pl .result) (b .len) l in
-    let there : pl .result < b .len → seen .call ≡ getD (v .calls) (pl .result) freeCall = λ l. ap (λ i. getD (v .calls) i unread) (near l) ∙ read-any (v .calls) (pl .result) unread freeCall (omega (arith, l, w .beside .long, a .pre)) in
+    let there : pl .result < b .len → seen .call ≡ getD (v .calls) (pl .result) freeCall = λ l. ap (λ i. getD (v .calls) i unread) (near l) ∙ read-any (v .calls) (pl .result) unread freeCall (omega (arith, l, w .beside .long, h)) in
     let known = c .before .before .enum-told3 .given in
     let x = c .before .acted .result in
-    let l = turn-there (boardNow b (v .s) (v .calls)) d e (a .pre) (w .beside) late seen refl (pl .ensures) there (id .ensures) (t .result) (t .ensures) (known .1) in
-    rw (near l, read-any (v .calls) (pl .result) unread freeCall (omega (arith, l, w .beside .long, a .pre)))
-    (may-flip (b .len) (v .calls) (v .free) (v .soon) (v .dues) (v .held) (a .pre) (w .beside) (pl .result) (x .call) l)
+    let l = turn-there (boardNow b (v .s) (v .calls)) d e h (w .beside) late seen refl (pl .ensures) there (id .ensures) (t .result) (t .ensures) (known .1) in
+    rw (near l, read-any (v .calls) (pl .result) unread freeCall (omega (arith, l, w .beside .long, h)))
+    (may-flip (b .len) (v .calls) (v .free) (v .soon) (v .dues) (v .held) h (w .beside) (pl .result) (x .call) l)
 
 mul-dues : tie.Need-mul-dues Inv-loop μ-loop
 mul-dues c =
     let wi = c .before .before .before .before .before .before .before .before .before .before .within in
-    let m : wi .result < 64 = rw (wi .ensures) (within-small _ _ (c .before .before .before .before .before .before .before .before .before .before .before .before .before .before .before .before .before .before .before .before .before .before .pre)) in
+    let m : wi .result < 64 = rw (wi .ensures) (within-small _ _ (tested-short (c .before .before .before .before .before .before .before .before .before .before .before .before .before .before .before .before .before .before .before .before .before .before .args .b) (c .before .before .before .before .before .before .before .before .before .before .before .before .before .before .before .before .before .before .before .before .before .before .pre))) in
     let w = c .before .before .before .before .before .before .before .before .before .before .before .before .before .before .before .loop .inv .1 .beside in
     omega (arith, m, w .long, w .wide, w .broad)
 
 array-write-dues : tie.Need-array-write-dues Inv-loop μ-loop
 array-write-dues c =
     let wi = c .before .before .before .before .before .before .before .before .before .before .within in
-    let m : wi .result < 64 = rw (wi .ensures) (within-small _ _ (c .before .before .before .before .before .before .before .before .before .before .before .before .before .before .before .before .before .before .before .before .before .before .pre)) in
+    let m : wi .result < 64 = rw (wi .ensures) (within-small _ _ (tested-short (c .before .before .before .before .before .before .before .before .before .before .before .before .before .before .before .before .before .before .before .before .before .before .args .b) (c .before .before .before .before .before .before .before .before .before .before .before .before .before .before .before .before .before .before .before .before .before .before .pre))) in
     let w = c .before .before .before .before .before .before .before .before .before .before .before .before .before .before .before .loop .inv .1 .beside in
     omega (arith, m, w .long, w .wide, w .broad)
 
 mul-held : tie.Need-mul-held Inv-loop μ-loop
 mul-held c =
     let wi = c .before .before .before .before .before .before .before .before .before .before .before .before .within in
-    let m : wi .result < 64 = rw (wi .ensures) (within-small _ _ (c .before .before .before .before .before .before .before .before .before .before .before .before .before .before .before .before .before .before .before .before .before .before .before .before .pre)) in
+    let m : wi .result < 64 = rw (wi .ensures) (within-small _ _ (tested-short (c .before .before .before .before .before .before .before .before .before .before .before .before .before .before .before .before .before .before .before .before .before .before .before .before .args .b) (c .before .before .before .before .before .before .before .before .before .before .before .before .before .before .before .before .before .before .before .before .before .before .before .before .pre))) in
     let w = c .before .before .before .before .before .before .before .before .before .before .before .before .before .before .before .before .before .loop .inv .1 .beside in
     omega (arith, m, w .long, w .wide, w .broad)
 
 array-write-held : tie.Need-array-write-held Inv-loop μ-loop
 array-write-held c =
     let wi = c .before .before .before .before .before .before .before .before .before .before .before .before .within in
-    let m : wi .result < 64 = rw (wi .ensures) (within-small _ _ (c .before .before .before .before .before .before .before .before .before .before .before .before .before .before .before .before .before .before .before .before .before .before .before .before .pre)) in
+    let m : wi .result < 64 = rw (wi .ensures) (within-small _ _ (tested-short (c .before .before .before .before .before .before .before .before .before .before .before .before .before .before .before .before .before .before .before .before .before .before .before .before .args .b) (c .before .before .before .before .before .before .before .before .before .before .before .before .before .before .before .before .before .before .before .before .before .before .before .before .pre))) in
     let w = c .before .before .before .before .before .before .before .before .before .before .before .before .before .before .before .before .before .loop .inv .1 .beside in
     omega (arith, m, w .long, w .wide, w .broad)
 
 add-done-2 : tie.Need-add-done-2 Inv-loop μ-loop
-add-done-2 c = omega (arith, c .before .before .before .before .before .before .before .before .before .before .before .before .before .before .before .before .before .before .loop, c .before .before .before .before .before .before .before .before .before .before .before .before .before .before .before .before .before .loop-test, c .before .before .before .before .before .before .before .before .before .before .before .before .before .before .before .before .before .before .before .before .before .before .before .before .before .good, c .before .before .before .before .before .before .before .before .before .before .before .before .before .before .before .before .before .before .before .before .before .before .before .before .before .pre)
+add-done-2 c = omega (arith, c .before .before .before .before .before .before .before .before .before .before .before .before .before .before .before .before .before .before .loop, c .before .before .before .before .before .before .before .before .before .before .before .before .before .before .before .before .before .loop-test, c .before .before .before .before .before .before .before .before .before .before .before .before .before .before .before .before .before .before .before .before .before .before .before .before .before .good)
 
 add-k : tie.Need-add-k Inv-loop μ-loop
-add-k c = omega (arith, c .before .before .before .before .before .before .before .before .before .before .loop, c .before .before .before .before .before .before .before .before .before .loop-test, c .before .before .before .before .before .before .before .before .before .before .before .before .before .before .before .before .before .good, c .before .before .before .before .before .before .before .before .before .before .before .before .before .before .before .before .before .pre)
+add-k c = omega (arith, c .before .before .before .before .before .before .before .before .before .before .loop, c .before .before .before .before .before .before .before .before .before .loop-test, c .before .before .before .before .before .before .before .before .before .before .before .before .before .before .before .before .before .good)
 
 loop-less : tie.Need-loop-less Inv-loop μ-loop
-loop-less c = omega (arith, c .before .before .before .before .before .before .before .before .before .before .loop, c .before .before .before .before .before .before .before .before .before .loop-test, c .before .before .before .before .before .before .before .before .before .before .before .before .before .before .before .before .before .good, c .before .before .before .before .before .before .before .before .before .before .before .before .before .before .before .before .before .pre)
+loop-less c = omega (arith, c .before .before .before .before .before .before .before .before .before .before .loop, c .before .before .before .before .before .before .before .before .before .loop-test, c .before .before .before .before .before .before .before .before .before .before .before .before .before .before .before .before .before .good)
 
 loop-again : tie.Need-loop-again Inv-loop μ-loop
 loop-again c =
     let a = c .before .before .before .before .before .before .before .before .before .before .before .before .before .before .before .before .before in
     let b = a .args .b in
+    let h = tested-short b (a .pre) in
     let v = c .before .before .before .before .before .before .before .before .before .before .loop in
     let w = v .inv .1 in
     let ev = c .before .before .before .before .before .before .before .before .event-at in
@@ -176,37 +180,38 @@ loop-again c =
     let late : e .time ≤ never = omega (arith, ev .ok) in
     let seen : Seen = record { len = b .len; place = pl .result; identifier = id .result; call = getD (v .calls) (wi .result) unread } in
     let near : pl .result < b .len → wi .result ≡ pl .result = λ l. wi .ensures ∙ within-near (pl .result) (b .len) l in
-    let there : pl .result < b .len → seen .call ≡ getD (v .calls) (pl .result) freeCall = λ l. ap (λ i. getD (v .calls) i unread) (near l) ∙ read-any (v .calls) (pl .result) unread freeCall (omega (arith, l, w .beside .long, a .pre)) in
+    let there : pl .result < b .len → seen .call ≡ getD (v .calls) (pl .result) freeCall = λ l. ap (λ i. getD (v .calls) i unread) (near l) ∙ read-any (v .calls) (pl .result) unread freeCall (omega (arith, l, w .beside .long, h)) in
     let more : v .k + 1 ≤ length (a .args .events .now) / 24 = omega (arith, v .inv .0, c .before .before .before .before .before .before .before .before .before .loop-test) in
     ⊎-elim
     (λ y.
     let known = y .1 .given in
-    (more, rw (y .2, y .3, y .4, y .5, y .6, y .7, y .8, y .9) (playing-refused b (a .args .events .now) (v .calls) (v .s) d (v .done) (v .refused) (v .k) w e (ev .ensures) (known .0 .0) (turn-refused (boardNow b (v .s) (v .calls)) d e (a .pre) (w .beside) late seen refl (pl .ensures) there (id .ensures) (t .result) (t .ensures) (known .0 .0) (known .1))), rw (y .3) (v .inv .2)))
+    (more, rw (y .2, y .3, y .4, y .5, y .6, y .7, y .8, y .9) (playing-refused b (a .args .events .now) (v .calls) (v .s) d (v .done) (v .refused) (v .k) w e (ev .ensures) (known .0 .0) (turn-refused (boardNow b (v .s) (v .calls)) d e h (w .beside) late seen refl (pl .ensures) there (id .ensures) (t .result) (t .ensures) (known .0 .0) (known .1))), rw (y .3) (v .inv .2)))
     (⊎-elim
     (λ y.
     let known = y .1 .given in
     let soon = beside-soon (b .len) (v .calls) (v .free) (v .soon) (v .dues) (v .held) (w .beside) _ (e .time) (y .3 .ensures) in
-    (more, rw (y .6, y .7, y .8, y .9, y .10, y .11, y .12, y .13) (playing-far b (a .args .events .now) (v .calls) (v .s) d (v .done) (v .refused) (v .k) w e (ev .ensures) (notes (v .free) (y .3 .result) (v .dues) (v .held)) _ (y .4 .result) soon (rw (y .5 .ensures) (turn-far (boardNow b (v .s) (v .calls)) d e (a .pre) (w .beside) late seen refl (pl .ensures) there (id .ensures) (t .result) (t .ensures) (y .4 .result) (known .1) (y .4 .ensures)))), rw (y .7, y .5 .ensures) (v .inv .2)))
+    (more, rw (y .6, y .7, y .8, y .9, y .10, y .11, y .12, y .13) (playing-far b (a .args .events .now) (v .calls) (v .s) d (v .done) (v .refused) (v .k) w e (ev .ensures) (notes (v .free) (y .3 .result) (v .dues) (v .held)) _ (y .4 .result) soon (rw (y .5 .ensures) (turn-far (boardNow b (v .s) (v .calls)) d e h (w .beside) late seen refl (pl .ensures) there (id .ensures) (t .result) (t .ensures) (y .4 .result) (known .1) (y .4 .ensures)))), rw (y .7, y .5 .ensures) (v .inv .2)))
     (λ y.
     let known = y .1 .given in
     let x = y .2 .result in
-    let l = turn-there (boardNow b (v .s) (v .calls)) d e (a .pre) (w .beside) late seen refl (pl .ensures) there (id .ensures) (t .result) (t .ensures) (known .1) in
+    let l = turn-there (boardNow b (v .s) (v .calls)) d e h (w .beside) late seen refl (pl .ensures) there (id .ensures) (t .result) (t .ensures) (known .1) in
     let i = near l in
-    let kept = beside-next (b .len) (v .calls) (v .free) (v .soon) (v .dues) (v .held) (a .pre) (w .beside) (wi .result) _ _ _ _ (x .call) (rw i l) (rw (read-any (v .calls) (wi .result) unread freeCall (omega (arith, l, i, w .beside .long, a .pre))) at (y .4 .ensures)) (y .5 .ensures) (y .6 .ensures) (y .7 .ensures) in
-    (more, rw (y .9, y .10, y .11, y .12, y .13, y .14, y .15, y .16) (playing-done b (a .args .events .now) (v .calls) (v .s) d (v .done) (v .refused) (v .k) w e (ev .ensures) _ (wi .result) _ x kept (rw (y .8 .ensures, i) (turn-done (boardNow b (v .s) (v .calls)) d e (a .pre) (w .beside) late seen refl (pl .ensures) there (id .ensures) (t .result) (t .ensures) x (known .1) (y .2 .ensures)))), rw (y .10, y .8 .ensures) (v .inv .2))))
+    let kept = beside-next (b .len) (v .calls) (v .free) (v .soon) (v .dues) (v .held) h (w .beside) (wi .result) _ _ _ _ (x .call) (rw i l) (rw (read-any (v .calls) (wi .result) unread freeCall (omega (arith, l, i, w .beside .long, h))) at (y .4 .ensures)) (y .5 .ensures) (y .6 .ensures) (y .7 .ensures) in
+    (more, rw (y .9, y .10, y .11, y .12, y .13, y .14, y .15, y .16) (playing-done b (a .args .events .now) (v .calls) (v .s) d (v .done) (v .refused) (v .k) w e (ev .ensures) _ (wi .result) _ x kept (rw (y .8 .ensures, i) (turn-done (boardNow b (v .s) (v .calls)) d e h (w .beside) late seen refl (pl .ensures) there (id .ensures) (t .result) (t .ensures) x (known .1) (y .2 .ensures)))), rw (y .10, y .8 .ensures) (v .inv .2))))
     (c .match .came)
 
 returns : tie.Need-returns Inv-loop μ-loop
 returns c =
+    let a = c .before .before .before .before .before .before .before .before in
     let v = c .before .loop in
-    let e : v .k ≡ length (c .before .before .before .before .before .before .before .before .args .events .now) / 24 = omega (arith, v .inv .0, c .loop-test) in
-    rw e at (v .inv .1 .so-far)
+    let e : v .k ≡ length (a .args .events .now) / 24 = omega (arith, v .inv .0, c .loop-test) in
+    rw e at (v .inv .1 .so-far) ∙ runs-tested (a .args .b) (a .args .events .now) (a .pre)
 
 pub run-tested-spec : {M : Type 1} → statement M
 run-tested-spec =
     tie.close
     (tie.spec
-    Inv-loop μ-loop (λ c κs. search needs) loop-holds (λ c. omega arith) (λ c κs. search needs) place-on-requires (λ c κs. tt) mul-c array-copy-out-c identifier-in-requires (λ c κs. tt)
+    Inv-loop μ-loop (λ c κs. tested-short (c .before .before .before .args .b) (c .before .before .before .pre)) loop-holds (λ c. omega arith) (λ c κs. search needs) place-on-requires (λ c κs. tt) mul-c array-copy-out-c identifier-in-requires (λ c κs. tt)
     (λ c. search needs) add-refused
     (λ c. search needs) refresh-requires (λ c κs. tt) (λ c κs. tt) add-done
     (λ c. search needs) acted-requires mul-calls array-set-from-calls flip-requires (λ c κs. tt) mul-dues array-write-dues (λ c κs. tt) (λ c κs. tt) mul-held array-write-held (λ c κs. tt) add-done-2

@@ -18,13 +18,13 @@ returns-16 c =
     let k = a .e .kind in
     let n = c .before .before .before .match .rest in
     let low = past-table k (c .before .before .if1 .left) (n .0 .0 .0 .0 .0 .0 .0 .0 .0 .0 .0 .0 .0 .0 .1) (n .0 .0 .0 .0 .0 .0 .0 .0 .0 .0 .0 .0 .0 .1) (n .0 .0 .0 .0 .0 .0 .0 .0 .0 .0 .0 .0 .1) (n .0 .0 .0 .0 .0 .0 .0 .0 .0 .0 .0 .1) (n .0 .0 .0 .0 .0 .0 .0 .0 .0 .0 .1) (n .0 .0 .0 .0 .0 .0 .0 .0 .0 .1) (n .0 .0 .0 .0 .0 .0 .0 .0 .1) (n .0 .0 .0 .0 .0 .0 .0 .1) (n .0 .0 .0 .0 .0 .0 .1) (n .0 .0 .0 .0 .0 .1) (n .0 .0 .0 .0 .1) (n .0 .0 .0 .1) (n .0 .0 .1) (n .0 .1) (n .1) in
-    c .far-number .ensures ∙ number-far (a .s) (a .e) (a .seen) (c .before .before .before .before .pre) (far-kind (a .e) low (c .before .if2 .taken))
+    c .remote-refusal .ensures ∙ number-far (a .s) (a .e) (a .seen) (c .before .before .before .before .pre .0) (c .before .before .before .before .pre .1) (far-kind (a .e) low (c .before .if2 .taken))
 
 -- beneath 1
 returns-17 : tie.Need-returns-17
 returns-17 c =
     let a = c .before .before .args in
-    number-ill (a .s) (a .e) (a .seen) (c .before .before .pre) (no-kind (a .e) (none (a .e .kind) (c .if1 .taken)))
+    number-ill (a .s) (a .e) (a .seen) (c .before .before .pre .0) (no-kind (a .e) (none (a .e .kind) (c .if1 .taken)))
   where
     none : (k : ℕ) → k < 1 → k ≡ 0
     none k h = omega (arith, h)
@@ -35,7 +35,7 @@ returns-18 c =
     let a = c .before .before .before .args in
     let k = a .e .kind in
     let high = c .if2 .left in
-    number-ill (a .s) (a .e) (a .seen) (c .before .before .before .pre) (no-row (a .e) (simp (lt-leb k 31 (omega (arith, high)), and-false)) (omega (arith, high)))
+    number-ill (a .s) (a .e) (a .seen) (c .before .before .before .pre .0) (no-row (a .e) (simp (lt-leb k 31 (omega (arith, high)), and-false)) (omega (arith, high)))
 
 pub number-by-kind-spec : {M : Type 1} → statement M
 number-by-kind-spec =

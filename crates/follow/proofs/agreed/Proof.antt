@@ -1,6 +1,0 @@
-use borrow.Author.Needs.{needs}
-use Rattle.follow.proofs.agreed.Statement.{statement}
-use Rattle.follow.proofs.agreed.Tie as tie
-
-pub agreed-spec : {M : Type 1} → statement M
-agreed-spec = tie.close (tie.spec (λ c κs. tt) (λ c κs. tt) (λ c κs. tt) (λ c. search needs) (λ c. cc))

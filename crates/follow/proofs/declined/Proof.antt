@@ -1,6 +1,0 @@
-use borrow.Author.Needs.{needs}
-use Rattle.follow.proofs.declined.Statement.{statement}
-use Rattle.follow.proofs.declined.Tie as tie
-
-pub declined-spec : {M : Type 1} → statement M
-declined-spec = tie.close (tie.spec (λ c κs. tt) (λ c. search needs) (λ c. cc))
