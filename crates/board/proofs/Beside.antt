@@ -9,11 +9,13 @@ use lib.ListN.{length, getD, set, take, drop, length-set, length-map}
 use Rattle.call.specs.declared.Call.{Call}
 use Rattle.call.specs.Record.{freeCall, isFree}
 use Rattle.notes.specs.declared.Notes.{Notes}
-use Rattle.notes.specs.Mask.{over, weigh}
-use Rattle.notes.specs.Notes.{notesOf, refreshedOf, frees, heldBy, quietUntil}
-use Rattle.notes.proofs.Mask.{over-length}
-use Rattle.notes.proofs.Kept.{Kept, kept-next, kept-may}
-use Rattle.notes.proofs.Bound.{refreshed-bound, kept-summed}
+use Rattle.bits.specs.Mask.{weigh}
+use Rattle.notes.specs.Notes.{notesOf}
+use Rattle.expiry.specs.Expiry.{refreshedOf, quietUntil}
+use Rattle.draw.specs.Column.{over, frees, heldBy}
+use Rattle.draw.proofs.Column.{over-length}
+use Rattle.notes.proofs.Kept.{Kept, kept-next, kept-may, kept-summed}
+use Rattle.expiry.proofs.Bound.{refreshed-bound}
 use Rattle.station.specs.declared.Station.{Station}
 use Rattle.board.specs.declared.Board.{Board}
 

@@ -22,7 +22,7 @@ use Rattle.station.specs.declared.Station.{Station}
 use Rattle.station.specs.Station.{emptyAnswer, stationOk}
 use Rattle.station.specs.Table.{openIdentifiers, sound}
 use Rattle.station.specs.Step.{refused, answerOf}
-use Rattle.sound.specs.Bounds.{inBounds}
+use Rattle.bounds.specs.Bounds.{inBounds}
 use Rattle.board.specs.declared.Board.{Board}
 use Rattle.board.specs.Board.{Stepped, tableOf, putBack, soundBoard, within}
 

@@ -17,13 +17,15 @@ use Rattle.remote.specs.declared.Pendings.{Pendings}
 use Rattle.remote.specs.Held.{timersOf}
 use Rattle.station.specs.Table.{requestsOf, at}
 use Rattle.notes.specs.declared.Notes.{Notes}
-use Rattle.notes.specs.Mask.{over}
 use Rattle.notes.proofs.Kept.{Kept}
-use Rattle.notes.specs.Notes.{frees, under, never, joinedOf, firstFreeIn}
-use Rattle.notes.proofs.Mask.{over-length}
+use Rattle.draw.specs.Column.{over, frees, joinedOf, firstFreeIn}
+use Rattle.expiry.specs.Expiry.{under, never}
+use Rattle.draw.proofs.Column.{over-length}
 use Rattle.board.proofs.Boards.{table-long}
-use Rattle.notes.proofs.Four.{joined-free}
-use Rattle.notes.proofs.Held.{free-first, due-first, requests-over, first-beginning, first-past-end}
+use Rattle.draw.proofs.Four.{joined-free}
+use Rattle.draw.proofs.Held.{requests-over}
+use Rattle.expiry.proofs.Due.{due-first}
+use Rattle.notes.proofs.Free.{free-first, first-beginning, first-past-end}
 
 module _ (n : ℕ) (l : List Call) (h : n ≤ 64) (e : length l ≡ 64) where
   -- a first place in the array is one in the table, or there is none

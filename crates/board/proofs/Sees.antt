@@ -19,11 +19,12 @@ use Rattle.call.specs.Incoming.{due}
 use Rattle.station.specs.declared.Station.{Station}
 use Rattle.station.specs.Table.{place}
 use Rattle.notes.specs.declared.Notes.{Notes}
-use Rattle.notes.specs.Mask.{over}
 use Rattle.notes.proofs.Kept.{Kept}
-use Rattle.notes.specs.Notes.{frees, under, never, identifierIn}
-use Rattle.turn.specs.declared.Seen.{Seen}
-use Rattle.turn.specs.Turn.{placeOf, Sees}
+use Rattle.draw.specs.Column.{over, frees, identifierIn}
+use Rattle.expiry.specs.Expiry.{under, never}
+use Rattle.sight.specs.declared.Seen.{Seen}
+use Rattle.sight.specs.Sight.{placeOf}
+use Rattle.turn.specs.Turn.{Sees}
 use Rattle.board.proofs.Boards.{table-long}
 use Rattle.board.proofs.Found.{table-at, found-free, none-free, found-due, none-due, found-identifier}
 

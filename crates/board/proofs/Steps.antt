@@ -18,11 +18,15 @@ use Rattle.station.specs.Table.{sound}
 use Rattle.station.specs.Refusals.{refusal}
 use Rattle.station.specs.Step.{answerOf, farAnswer, byNumber, step, stepOnSound}
 use Rattle.notes.specs.declared.Notes.{Notes}
-use Rattle.notes.specs.Notes.{under, never, identifierIn}
-use Rattle.turn.specs.declared.Seen.{Seen}
+use Rattle.expiry.specs.Expiry.{under, never}
+use Rattle.draw.specs.Column.{identifierIn}
+use Rattle.sight.specs.declared.Seen.{Seen}
 use Rattle.turn.specs.declared.Turn.{Turn}
 use Rattle.turn.specs.declared.Turn.the-variants.{Refused, Far, Done}
-use Rattle.turn.specs.Turn.{placeOf, turnOf, actedOf, movedOf, doable, stationOn, stationFar, outcomeOf, Sees}
+use Rattle.sight.specs.Sight.{placeOf}
+use Rattle.outcome.specs.Outcome.{stationOn, stationFar}
+use Rattle.deed.specs.Deed.{actedOf, doable}
+use Rattle.turn.specs.Turn.{turnOf, movedOf, outcomeOf, Sees}
 use Rattle.turn.proofs.Turns.{refused-number, done-there, done-doable}
 use Rattle.turn.proofs.Laws.{turn-steps}
 use Rattle.board.specs.declared.Board.{Board}

@@ -6,8 +6,8 @@ ghost use Prim.Native.Nat.{ℕ, _≤_};
 ghost use lib.Count.{trailingZeros};
 ghost use lib.ListN.{length};
 ghost use Rattle.ground.specs.Lists.{first, all};
-ghost use Rattle.notes.specs.Notes.{atLeast, under};
-ghost use Rattle.turn.specs.Turn.{placeOf};
+ghost use Rattle.expiry.specs.Expiry.{atLeast, under};
+ghost use Rattle.sight.specs.Sight.{placeOf};
 ghost use Rattle.board.specs.Board.{startBoard, soundBoard, within};
 use call::Call;
 use event::Event;
@@ -24,9 +24,9 @@ pub struct Board {
 pub fn start() -> Board
     ensures { λ r. ⌜ r ≡ startBoard ⌝ }
 {
-    let made = station::fresh(15, 1, 1);
+    let made = fresh::fresh(15, 1, 1);
     let station = made.station;
-    let free = call::free_call();
+    let free = blank::free_call();
     let calls = [free; 64];
     Board {
         station: station,
@@ -42,7 +42,7 @@ pub fn sound_board(b: Board) -> bool
     let len = b.len;
     let calls = b.calls;
     let s = b.station;
-    if sound::in_bounds(len, s) {
+    if bounds::in_bounds(len, s) {
         return table::sound_table(calls, len, s.last, s.remote.pending);
     }
     false
@@ -54,9 +54,9 @@ pub fn place_on(e: Event, free: u64, soon: u64, dues: &[u64; 64]) -> usize
     ensures { λ r. ⌜ r ≡ placeOf e (trailingZeros 64 free) (first (under (e .time)) (now (dues .entry))) ⌝ }
 {
     if e.kind == 10 {
-        return notes::due_at(dues, soon, e.time);
+        return expiry::due_at(dues, soon, e.time);
     }
-    turn::place_of(e, notes::lowest(free), 64)
+    sight::place_of(e, bits::lowest(free), 64)
 }
 
 // The place, or 0 where the table has no such record: what is read there is not looked at.

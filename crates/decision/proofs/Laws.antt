@@ -15,18 +15,23 @@ use Rattle.call.specs.declared.Call.{Call}
 use Rattle.station.specs.declared.Station.{Station}
 use Rattle.station.specs.Table.{sound}
 use Rattle.station.specs.Step.{step}
-use Rattle.sound.specs.Bounds.{inBounds}
+use Rattle.bounds.specs.Bounds.{inBounds}
 use Rattle.slice.specs.Table.{settledAt}
 use Rattle.survey.specs.declared.Noted.{Noted}
-use Rattle.turn.specs.declared.Seen.{Seen}
+use Rattle.sight.specs.declared.Seen.{Seen}
 use Rattle.turn.specs.declared.Turn.{Turn}
 use Rattle.turn.specs.declared.Turn.the-variants.{Refused, Far, Done}
-use Rattle.turn.specs.Turn.{seenIn, beyond, numberOf, turnOf, doable, decidedOf, outcomeOf}
+use Rattle.sight.specs.Sight.{beyond}
+use Rattle.numbers.specs.Numbers.{numberOf}
+use Rattle.deed.specs.Deed.{doable}
+use Rattle.turn.specs.Turn.{seenIn, turnOf, decidedOf, outcomeOf}
 use Rattle.turn.proofs.Turns.{done-doable}
 use Rattle.turn.proofs.Laws.{decided-steps}
-use Rattle.decision.specs.declared.Input.{Input}
-use Rattle.decision.specs.declared.Pick.{Pick}
-use Rattle.decision.specs.Decision.{unchangedAs, decisionOf, decisionOn, outcomeBy, placeSeen, decisionBy}
+use Rattle.pick.specs.declared.Input.{Input}
+use Rattle.pick.specs.declared.Pick.{Pick}
+use Rattle.pick.specs.Pick.{placeSeen}
+use Rattle.change.specs.Change.{unchangedAs}
+use Rattle.decision.specs.Decision.{decisionOf, decisionOn, outcomeBy, decisionBy}
 
 -- what was seen, with the place as the code holds it
 abbrev seenAt : ℕ → ℕ → Pick → Call → Seen

@@ -28,7 +28,7 @@ fn played(bytes: &[u8]) {
         if heading(bytes, i * 24) {
             s = fresh();
         } else {
-            let e = event::event_at(bytes, i * 24);
+            let e = wire::event_at(bytes, i * 24);
             s = on(s, e);
         }
         i += 1;

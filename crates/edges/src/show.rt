@@ -86,7 +86,7 @@ fn one_line(board: Board, position: u64, e: Event, line: &mut [u8]) -> Lined
             written: played.written,
         };
     }
-    let answer = station::empty_answer(1);
+    let answer = fresh::empty_answer(1);
     let written = printout::write_line(line, 0, position, answer);
     Lined {
         board: board,

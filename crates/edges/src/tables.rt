@@ -52,7 +52,7 @@ pub fn limits() {
 pub fn short_form() {
     say(b"# the short form\n");
     let mut s = fresh();
-    let short = station::fresh_short();
+    let short = fresh::fresh_short();
     s.board.station.limit = short.limit;
     let s = on(s, open_diverted(102, 4, 1));
     let s = on(s, divert(0, 2));
@@ -77,7 +77,7 @@ pub fn zeros() {
 }
 
 fn fresh_code(limit: u8, mark: u8) {
-    let made = station::fresh(limit, mark, mark);
+    let made = fresh::fresh(limit, mark, mark);
     io::print_decimal(1, made.code as u64);
     say(b"\n");
 }
@@ -109,7 +109,7 @@ fn ticked(c: Call, position: u32) {
 }
 
 fn outgoing() -> Call {
-    let mut c = call::free_call();
+    let mut c = blank::free_call();
     c.direction = 1;
     c.basic = 1;
     c.party = 101;
@@ -125,7 +125,7 @@ fn diverted() -> Call {
 }
 
 fn incoming() -> Call {
-    let mut c = call::free_call();
+    let mut c = blank::free_call();
     c.direction = 2;
     c.basic = 1;
     c.own = 102;
@@ -144,7 +144,7 @@ fn asked() -> Call {
 // Each of these records makes its table not sound.
 pub fn damaged_outgoing() {
     say(b"# damaged, outgoing\n");
-    let mut c = call::free_call();
+    let mut c = blank::free_call();
     c.party = 101;
     ticked(c, 0);
     let mut c = outgoing();
@@ -180,7 +180,7 @@ fn invoked() -> Call {
     c.cdr = 1;
     let first = waiting(3, 2, 301);
     let second = waiting(1, 0, 302);
-    let w = waits::waits_for(first);
+    let w = queue::waits_for(first);
     c.waiting = with_second(w, second);
     c
 }

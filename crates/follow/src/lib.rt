@@ -92,7 +92,7 @@ fn over(r: Remote, sort: u8, identifier: u32) -> Moved
 {
     let none = timed::idle();
     let after = put(sort, none, r);
-    let message = call::no_message();
+    let message = blank::no_message();
     Moved {
         remote: after,
         message: message,
@@ -117,7 +117,7 @@ fn act_remote(r: Remote, e: Event, identifier: u16) -> Moved
 fn unmoved(r: Remote) -> Moved
     ensures { λ m. ⌜ m ≡ unmoved r ⌝ }
 {
-    let message = call::no_message();
+    let message = blank::no_message();
     Moved {
         remote: r,
         message: message,
@@ -180,7 +180,7 @@ fn lapse(time: u64, r: Remote) -> Moved
 fn taken(r: Remote, e: Event) -> bool
     ensures { λ b. ⌜ b ≡ taken r e ⌝ }
 {
-    let made = event::remote_fields(e);
+    let made = farfields::remote_fields(e);
     let number = holding::remote_refusal(r, e);
     ((16 <= e.kind) & (e.kind <= 31)) & made & (number == 0)
 }

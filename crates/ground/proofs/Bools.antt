@@ -17,6 +17,14 @@ pub and-i : (a b : Bool) → T a → T b → T (a && b)
 and-i true b s t = t
 and-i false b s t = s
 
+pub and-true : (a : Bool) → a && true ≡ a
+and-true true = refl
+and-true false = refl
+
+pub and-assoc : (a b c : Bool) → a && (b && c) ≡ a && b && c
+and-assoc true b c = refl
+and-assoc false b c = refl
+
 pub or-inl : (a b : Bool) → T a → T (a || b)
 or-inl true b h = h
 or-inl false b h = absurd h

@@ -19,14 +19,14 @@ fn hand_over(c: Call) -> Noticed
 {
     let history = c.history;
     let waiting = c.waiting;
-    waits::hand_over(history, waiting)
+    queue::hand_over(history, waiting)
 }
 
 // "CDR Idle": nothing waits any more.
 fn cdr_idle(c: Call) -> Call
     ensures { λ r. ⌜ r ≡ cdrIdle c ⌝ }
 {
-    let none = waits::no_waits();
+    let none = queue::no_waits();
     let mut d = c;
     d.cdr = 0;
     d.waiting = none;
@@ -39,7 +39,7 @@ fn moved_over(c: Call) -> Call
 {
     let noticed = hand_over(c);
     let waiting = c.waiting;
-    let party = waits::last_number(waiting);
+    let party = queue::last_number(waiting);
     let mut d = outgoing::to_cdo(noticed, c);
     d.party = party;
     cdr_idle(d)
@@ -127,7 +127,7 @@ fn first_leg_sent(c: Call, e: Event) -> Sent
     if (e.message == 3) & (c.cdr == 1) {
         message::one(message::bare(b'X', 2))
     } else {
-        call::no_messages()
+        blank::no_messages()
     }
 }
 
@@ -157,7 +157,7 @@ fn leg2_remains(c: Call) -> Effect
     let noticed = hand_over(c);
     let mut d = moved_over(c);
     d.basic = 1;
-    let nothing = call::no_messages();
+    let nothing = blank::no_messages();
     Effect {
         call: d,
         sent: nothing,
@@ -208,7 +208,7 @@ pub fn messaged(c: Call, e: Event) -> Effect
 pub fn ended(c: Call) -> Effect
     ensures { λ r. ⌜ r ≡ ended c ⌝ }
 {
-    let free = call::free_call();
+    let free = blank::free_call();
     let first = message::bare(b'X', 1);
     if c.cdr == 1 {
         let second = message::bare(b'X', 2);

@@ -35,31 +35,32 @@ use Rattle.slice.proofs.Row.{R, vals, makes, tells}
 use Rattle.survey.specs.declared.Asked.{Asked}
 use Rattle.survey.specs.declared.Noted.{Noted}
 use Rattle.survey.specs.Survey.{surveyOf}
-use Rattle.notes.specs.Notes.{columnOf}
-use Rattle.survey.proofs.Cells.{AU}
+use Rattle.draw.specs.Column.{columnOf}
+use Rattle.copy.proofs.Cells.{AU}
 use Rattle.survey.proofs.Asked as Q
 use Rattle.survey.proofs.Asked.Laws as Q′
 use Rattle.survey.proofs.Noted as N
 use Rattle.survey.proofs.Noted.Laws as N′
-use Rattle.decision.specs.declared.Input.{Input}
-use Rattle.decision.specs.declared.Decision.{Decision}
-use Rattle.decision.specs.declared.Pick.{Pick}
-use Rattle.decision.specs.Decision.{askedOf, placeSeen, wantsColumn, fromColumn, asItStands, pickedOf, decisionBy}
-use Rattle.decision.proofs.Input as I
-use Rattle.decision.proofs.Input.Laws as I′
-use Rattle.decision.proofs.Decision as D
-use Rattle.decision.proofs.Decision.Laws as D′
-use Rattle.decision.proofs.Pick as P
-use Rattle.decision.proofs.Pick.Laws as P′
+use Rattle.pick.specs.declared.Input.{Input}
+use Rattle.change.specs.declared.Decision.{Decision}
+use Rattle.pick.specs.declared.Pick.{Pick}
+use Rattle.pick.specs.Pick.{askedOf, placeSeen, wantsColumn, fromColumn, asItStands, pickedOf}
+use Rattle.decision.specs.Decision.{decisionBy}
+use Rattle.pick.proofs.Input as I
+use Rattle.pick.proofs.Input.Laws as I′
+use Rattle.change.proofs.Decision as D
+use Rattle.change.proofs.Decision.Laws as D′
+use Rattle.pick.proofs.Pick as P
+use Rattle.pick.proofs.Pick.Laws as P′
 use Rattle.slice.proofs.fit as fit
 use Rattle.slice.proofs.record_at as read
 use Rattle.survey.proofs.survey as survey
-use Rattle.survey.proofs.column as column
-use Rattle.decision.proofs.asked as asked
-use Rattle.decision.proofs.place_seen as place
-use Rattle.decision.proofs.wants_column as wants
-use Rattle.decision.proofs.from_column as from-column
-use Rattle.decision.proofs.as_it_stands as stands
+use Rattle.copy.proofs.column as column
+use Rattle.pick.proofs.asked as asked
+use Rattle.pick.proofs.place_seen as place
+use Rattle.pick.proofs.wants_column as wants
+use Rattle.pick.proofs.from_column as from-column
+use Rattle.pick.proofs.as_it_stands as stands
 use Rattle.lent.proofs.picked as picked
 use Rattle.decision.proofs.decided_on as decided
 

@@ -24,27 +24,29 @@ use Rattle.remote.specs.declared.Pendings.{Pendings}
 use Rattle.station.specs.declared.Station.{Station}
 use Rattle.station.specs.Station.{stationOk}
 use Rattle.station.specs.Table.{at, place, sound, soundTable, openIdentifiers, identifierFor}
-use Rattle.sound.specs.Bounds.{inBounds}
+use Rattle.bounds.specs.Bounds.{inBounds}
 use Rattle.slice.specs.Table.{fitOf}
 use Rattle.slice.proofs.Bounds.{fit-short, fit-long}
-use Rattle.notes.specs.Mask.{over}
-use Rattle.notes.specs.Notes.{joinedOf, identifierIn, frees, columnOf}
-use Rattle.notes.proofs.Held.{requests-over}
-use Rattle.notes.proofs.Four.{joined-free}
+use Rattle.draw.specs.Column.{over, joinedOf, identifierIn, frees, columnOf}
+use Rattle.draw.proofs.Held.{requests-over}
+use Rattle.draw.proofs.Four.{joined-free}
 use Rattle.table.specs.Column.{apartIn}
 use Rattle.table.proofs.Columns.{column-apart}
 use Rattle.survey.specs.declared.Noted.{Noted}
 use Rattle.survey.specs.Survey.{surveyOf}
 use Rattle.survey.proofs.Laws.{survey-sound, survey-free, survey-due}
 use Rattle.survey.proofs.Four.{four-clash}
-use Rattle.turn.specs.declared.Seen.{Seen}
+use Rattle.sight.specs.declared.Seen.{Seen}
 use Rattle.turn.specs.declared.Turn.{Turn}
 use Rattle.turn.specs.declared.Turn.the-variants.{Refused, Far, Done}
-use Rattle.turn.specs.Turn.{seenIn, turnOf, actedOf, movedOf, decidedOf, stationOn, stationFar, Sees}
+use Rattle.outcome.specs.Outcome.{stationOn, stationFar}
+use Rattle.deed.specs.Deed.{actedOf}
+use Rattle.turn.specs.Turn.{seenIn, turnOf, movedOf, decidedOf, Sees}
 use Rattle.turn.proofs.Laws.{sees-in, same-act, same-moved, same-next, same-station, turn-same}
-use Rattle.decision.specs.declared.Input.{Input}
-use Rattle.decision.specs.declared.Pick.{Pick}
-use Rattle.decision.specs.Decision.{decisionOf, decisionOn, askedOf, placeSeen, pendingIn, clashIn, wantsColumn, fromColumn, asItStands, pickedOf, seenBy, decisionBy}
+use Rattle.pick.specs.declared.Input.{Input}
+use Rattle.pick.specs.declared.Pick.{Pick}
+use Rattle.pick.specs.Pick.{askedOf, placeSeen, pendingIn, clashIn, wantsColumn, fromColumn, asItStands, pickedOf}
+use Rattle.decision.specs.Decision.{decisionOf, decisionOn, seenBy, decisionBy}
 use Rattle.decision.proofs.Laws.{There, turn-there}
 
 -- ---- whoever sees enough, at the definition's place, decides the same

@@ -3,11 +3,12 @@
 ghost use mathlib.Core.Path.{_≡_};
 ghost use Prim.Native.Nat.{_≤_};
 ghost use lib.ListN.{length};
-ghost use Rattle.decision.specs.Decision.{pickedOf, decisionOn};
+ghost use Rattle.pick.specs.Pick.{pickedOf};
+ghost use Rattle.decision.specs.Decision.{decisionOn};
 use call::Call;
-use decision::Decision;
-use decision::Input;
-use decision::Pick;
+use change::Decision;
+use pick::Input;
+use pick::Pick;
 use survey::Noted;
 
 // The column is made only where it is needed: a second walk over the first n records.
@@ -15,11 +16,11 @@ fn picked(table: &[Call], n: usize, v: Noted, input: Input) -> Pick
     requires { ⌜ (n ≤ length (now table)) × (n ≤ 64) ⌝ }
     ensures { λ r. ⌜ r ≡ pickedOf input v n (now (table .entry)) ⌝ }
 {
-    if decision::wants_column(v, input) {
-        let held = survey::column(table, n);
-        return decision::from_column(input, v, held);
+    if pick::wants_column(v, input) {
+        let held = copy::column(table, n);
+        return pick::from_column(input, v, held);
     }
-    decision::as_it_stands(input)
+    pick::as_it_stands(input)
 }
 
 // One event on any slice.
@@ -27,9 +28,9 @@ pub fn looked(table: &[Call], input: Input) -> Decision
     ensures { λ r. ⌜ r ≡ decisionOn (input .station) (now (table .entry)) (input .event) ⌝ }
 {
     let n = slice::fit(table.len());
-    let q = decision::asked(input);
+    let q = pick::asked(input);
     let v = survey::survey(table, n, q);
-    let place = decision::place_seen(v, input);
+    let place = pick::place_seen(v, input);
     let c = slice::record_at(table, n, place);
     let p = picked(table, n, v, input);
     decision::decided_on(input, v, n, p, c)

@@ -16,7 +16,7 @@ pub const NO_IDENTIFIER: u32 = 65536;
 pub fn bare(letter: u8, leg: u8) -> Message
     ensures { λ r. ⌜ r ≡ bare letter leg ⌝ }
 {
-    let mut m = call::no_message();
+    let mut m = blank::no_message();
     m.letter = letter;
     m.leg = leg;
     m
@@ -25,7 +25,7 @@ pub fn bare(letter: u8, leg: u8) -> Message
 pub fn one(m: Message) -> Sent
     ensures { λ r. ⌜ r ≡ one m ⌝ }
 {
-    let none = call::no_message();
+    let none = blank::no_message();
     Sent {
         first: m,
         second: none,
@@ -36,7 +36,7 @@ pub fn one(m: Message) -> Sent
 pub fn two(a: Message, b: Message) -> Sent
     ensures { λ r. ⌜ r ≡ two a b ⌝ }
 {
-    let none = call::no_message();
+    let none = blank::no_message();
     Sent {
         first: a,
         second: b,
@@ -61,7 +61,7 @@ pub fn sending(c: Call, sent: Sent) -> Effect
 pub fn silent(c: Call) -> Effect
     ensures { λ r. ⌜ r ≡ silent c ⌝ }
 {
-    let nothing = call::no_messages();
+    let nothing = blank::no_messages();
     sending(c, nothing)
 }
 
@@ -69,5 +69,5 @@ pub fn silent(c: Call) -> Effect
 pub fn freed() -> Effect
     ensures { λ r. ⌜ r ≡ silent freeCall ⌝ }
 {
-    silent(call::free_call())
+    silent(blank::free_call())
 }

@@ -1,20 +1,23 @@
 -- What is kept beside a table, and what it is after one store. Assumes nothing.
-use Prim.Native.Nat.{ℕ, zero, suc, _+_, _*_, _-_, _^_, _≤_, _<_}
-use mathlib.Core.Bool.{Bool, true, false, _&&_}
-use mathlib.Core.List.{List, [], _∷_, map}
-use mathlib.Core.Path.{_≡_, refl, sym, ap, _∙_}
+use Prim.Native.Nat.{ℕ, _+_, _-_, _≤_, _<_}
+use mathlib.Core.Bool.{true}
+use mathlib.Core.List.{List, map}
+use mathlib.Core.Path.{_≡_, refl, sym, _∙_}
 use native.Mathlib.Omega.{arith}
-use borrow.Author.Tests.{le-ltb, le-leb, leb-true}
-use lib.Dec.{leb, ltb, eqb}
+use borrow.Author.Tests.{le-leb}
 use lib.ListN.{length, getD, set, length-set, replicate}
-use Rattle.ground.specs.Lists.{first, all}
-use Rattle.ground.proofs.Walks.{all-set, both}
+use Rattle.ground.specs.Lists.{all}
+use Rattle.ground.proofs.Walks.{all-set}
 use Rattle.call.specs.declared.Call.{Call}
-use Rattle.call.specs.Record.{isFree, freeCall}
+use Rattle.call.specs.Record.{isFree}
+use Rattle.bits.specs.Mask.{maskOf, weigh}
+use Rattle.bits.proofs.Mask.{mask-set, mask-has, mask-lt}
+use Rattle.expiry.specs.Expiry.{quietUntil, atLeast, never, soonestOf}
+use Rattle.expiry.proofs.Bound.{all-lower, soonest-bound}
+use Rattle.draw.specs.Column.{heldBy, frees}
+use Rattle.draw.proofs.Column.{map-set}
 use Rattle.notes.specs.declared.Notes.{Notes}
-use Rattle.notes.specs.Mask.{maskOf, weigh, over}
-use Rattle.notes.specs.Notes.{heldBy, quietUntil, atLeast, under, never, frees, columnOf}
-use Rattle.notes.proofs.Mask.{mask-set, mask-has, mask-lt, over-next}
+use Rattle.notes.specs.Notes.{notesOf}
 
 -- what is kept from event to event: as summed up, but that the bound may lie below the least
 pub record Kept (calls : List Call) (d : Notes) : Type 0 where
@@ -22,34 +25,6 @@ pub record Kept (calls : List Call) (d : Notes) : Type 0 where
   pub column : d .dues ≡ map quietUntil calls
   pub bound : all (atLeast (d .soon)) (d .dues) ≡ true
   pub idents : d .held ≡ map heldBy calls
-
-pub map-set : {A B : Type 0} (f : A → B) (l : List A) (i : ℕ) (x : A) → map f (set l i x) ≡ set (map f l) i (f x)
-map-set f [] i x = refl
-map-set f (y ∷ ys) zero x = refl
-map-set f (y ∷ ys) (suc i) x = ap (λ r. f y ∷ r) (map-set f ys i x)
-
--- the column with one record more
-pub column-next : (calls : List Call) (i : ℕ) → i < length calls → i < 64 → set (columnOf i calls) i (heldBy (getD calls i freeCall)) ≡ columnOf (i + 1) calls
-column-next calls i h k = sym (map-set heldBy (over i calls frees) i (getD calls i freeCall)) ∙ ap (map heldBy) (over-next calls frees i freeCall h k)
-
-pub all-lower : (n m : ℕ) (l : List ℕ) → n ≤ m → all (atLeast m) l ≡ true → all (atLeast n) l ≡ true
-unfolding all
-all-lower n m [] h e = refl
-all-lower n m (d ∷ ds) h e =
-    let w = both (leb m d) (all (atLeast m) ds) e in
-    let k : m ≤ d = leb-true m d (w .0) in
-    let g : n ≤ d = omega arith in
-    simp (le-leb n d g, all-lower n m ds h (w .1))
-
--- nothing is due before the soonest
-pub none-under : (time m : ℕ) (l : List ℕ) → time ≤ m → all (atLeast m) l ≡ true → first (under time) l ≡ length l
-unfolding all first
-none-under time m [] h e = refl
-none-under time m (d ∷ ds) h e =
-    let w = both (leb m d) (all (atLeast m) ds) e in
-    let k : m ≤ d = leb-true m d (w .0) in
-    let g : time ≤ d = omega arith in
-    simp (le-ltb d time g, none-under time m ds h (w .1))
 
 abbrev pub notes : ℕ → ℕ → List ℕ → List ℕ → Notes
 notes free soon dues held = record { free = free; soon = soon; dues = dues; held = held }
@@ -77,3 +52,14 @@ module _ (l : List Call) (free soon : ℕ) (dues held : List ℕ) (i : ℕ) (x z
 pub kept-none : Kept frees (notes never never (replicate 64 never) (replicate 64 0))
 unfolding maskOf all
 kept-none = record { mask = refl; column = refl; bound = refl; idents = refl }
+
+-- what is summed up may be kept
+pub kept-summed : (calls : List Call) (d : Notes) → d ≡ notesOf calls → Kept calls d
+unfolding notesOf
+kept-summed calls d e = rw e (record { mask = refl; column = refl; bound = soonest-bound (map quietUntil calls); idents = refl })
+
+-- what is kept, with the least for its bound, is what is summed up
+pub summed-kept : (calls : List Call) (free soon : ℕ) (dues held : List ℕ) → Kept calls (notes free soon dues held) → soon ≡ soonestOf dues
+    → notes free soon dues held ≡ notesOf calls
+unfolding notesOf
+summed-kept calls free soon dues held w e = rw (e, w .mask, w .column, w .idents)

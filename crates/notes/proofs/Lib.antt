@@ -1,5 +1,2 @@
-pub mod Mask
 pub mod Kept
-pub mod Held
-pub mod Four
-pub mod Bound
+pub mod Free

@@ -7,7 +7,7 @@ use Rattle.station.specs.declared.Station.{Station}
 use Rattle.board.specs.declared.Board.{Board}
 use Rattle.board.specs.Board.{tableOf}
 use Rattle.printout.specs.Panel.{linesText}
-use Rattle.printout.proofs.Determined.{written-determined}
+use Rattle.digits.proofs.Determined.{written-determined}
 use Rattle.panel.specs.declared.Played.{Played}
 use Rattle.panel.specs.Play.{Plays, playedCount, playedEvents, boardAfter}
 

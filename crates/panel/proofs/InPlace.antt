@@ -4,7 +4,7 @@ use mathlib.Core.List.{List}
 use mathlib.Core.Path.{_≡_, _∙_}
 use lib.ListN.{length, set}
 use Rattle.event.specs.declared.Event.{Event}
-use Rattle.event.specs.Record.{eventAt}
+use Rattle.wire.specs.Record.{eventAt}
 use Rattle.call.specs.declared.Call.{Call}
 use Rattle.call.specs.declared.Effect.{Effect}
 use Rattle.remote.specs.declared.Moved.{Moved}
@@ -18,7 +18,7 @@ use Rattle.board.proofs.Boards.{refusedBoard, doneBoard, farBoard}
 use Rattle.board.proofs.Beside.{boardNow}
 use Rattle.board.proofs.Steps.{tested-step}
 use Rattle.printout.specs.Line.{line}
-use Rattle.printout.specs.Written.{Written}
+use Rattle.digits.specs.Written.{Written}
 use Rattle.panel.proofs.Playing.{Playing, playing-next}
 
 module _ (b : Board) (position : ℕ) (bytes old : List ℕ) (n : ℕ) (s : Station) (calls : List Call) (out : List ℕ) (at k : ℕ)

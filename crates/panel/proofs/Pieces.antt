@@ -7,7 +7,7 @@ use native.Mathlib.Nat.{add-zero, zero-add}
 use native.Mathlib.Omega.{arith}
 use lib.ListN.{length, take, drop, length-drop}
 use Rattle.event.specs.declared.Event.{Event}
-use Rattle.event.specs.Record.{eventsFrom}
+use Rattle.wire.specs.Record.{eventsFrom}
 use Rattle.board.specs.declared.Board.{Board}
 use Rattle.board.specs.Board.{tableOf, soundBoard, stepBoard}
 use Rattle.board.proofs.Boards.{tested-short}

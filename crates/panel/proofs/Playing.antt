@@ -7,16 +7,16 @@ use native.Mathlib.Nat.{add-zero, sub-zero}
 use native.Mathlib.Omega.{arith}
 use lib.ListN.{length}
 use Rattle.event.specs.declared.Event.{Event}
-use Rattle.event.specs.Record.{eventAt, eventsFrom}
+use Rattle.wire.specs.Record.{eventAt, eventsFrom}
 use Rattle.board.specs.declared.Board.{Board}
 use Rattle.board.specs.Board.{Stepped, tableOf, soundBoard, stepBoard}
 use Rattle.board.proofs.Boards.{tested-short}
 use Rattle.board.proofs.Kept.{board-kept}
 use Rattle.printout.specs.Line.{line, printed}
 use Rattle.printout.specs.Panel.{linesText}
-use Rattle.printout.specs.Written.{Written}
-use Rattle.printout.proofs.Texts.{and-then}
-use Rattle.printout.proofs.Pieces.{unwritten}
+use Rattle.digits.specs.Written.{Written}
+use Rattle.digits.proofs.Texts.{and-then}
+use Rattle.digits.proofs.Texts.{unwritten}
 use Rattle.panel.specs.Play.{boardAfter}
 use Rattle.panel.proofs.Boards.{stays-long, lines-on, after-none, after-more}
 

@@ -9,7 +9,7 @@ use lib.ListN.{length, getD, take, drop}
 use lib.Seq.{getD-take, getD-drop}
 use Rattle.ground.specs.Bytes.{pair, four}
 use Rattle.event.specs.declared.Event.{Event}
-use Rattle.event.specs.Record.{eventAt, eventsFrom}
+use Rattle.wire.specs.Record.{eventAt, eventsFrom}
 
 -- the event of 24 bytes
 abbrev ofBytes : (ℕ → ℕ) → Event

@@ -3,7 +3,7 @@ use Prim.Native.Nat.{ℕ, _+_, _*_, _≤_, _<_}
 use mathlib.Core.Path.{_≡_}
 use mathlib.Core.List.{List, _++_}
 use lib.ListN.{length, take, drop}
-use Rattle.event.specs.Record.{eventsFrom}
+use Rattle.wire.specs.Record.{eventsFrom}
 use Rattle.board.specs.declared.Board.{Board}
 use Rattle.board.specs.Board.{startBoard, tableOf}
 use Rattle.printout.specs.Panel.{linesText, cutText, panelText}

@@ -5,12 +5,12 @@ use mathlib.Core.Bool.{true}
 use mathlib.Core.List.{List}
 use lib.ListN.{length}
 use Rattle.event.specs.declared.Event.{Event}
-use Rattle.event.specs.Record.{eventsFrom}
+use Rattle.wire.specs.Record.{eventsFrom}
 use Rattle.station.specs.Step.{run}
 use Rattle.board.specs.declared.Board.{Board}
 use Rattle.board.specs.Board.{tableOf, boardWith, soundBoard}
 use Rattle.printout.specs.Panel.{linesText}
-use Rattle.printout.specs.Written.{Written}
+use Rattle.digits.specs.Written.{Written}
 use Rattle.panel.specs.declared.Played.{Played}
 
 -- the board that a list of events leaves, where it holds at most 64 records: what the definition's run leaves of its table

@@ -6,7 +6,7 @@ ghost use lib.ListN.{length};
 ghost use Rattle.board.specs.Board.{soundBoard};
 ghost use Rattle.panel.specs.Play.{Plays};
 use board::Board;
-use turn::Seen;
+use sight::Seen;
 use turn::Turn;
 
 #[repr(C)]
@@ -41,11 +41,11 @@ pub fn play(b: Board, position: u64, bytes: &[u8], out: &mut [u8]) -> Played
     let mut at: usize = 0;
     let mut k: usize = 0;
     while k < n {
-        let e = event::event_at(bytes, k * 24);
+        let e = wire::event_at(bytes, k * 24);
         let place = board::place_on(e, free, soon, &dues);
         let i = board::within(place, len);
         let c = calls[i];
-        let identifier = notes::identifier_in(e, &held, s.remote.pending, s.next);
+        let identifier = draw::identifier_in(e, &held, s.remote.pending, s.next);
         let seen = Seen {
             len: len,
             place: place,
@@ -55,28 +55,28 @@ pub fn play(b: Board, position: u64, bytes: &[u8], out: &mut [u8]) -> Played
         let t = turn::turned(s, e, seen);
         match t {
             Turn::Refused(code) => {
-                let answer = station::empty_answer(code);
+                let answer = fresh::empty_answer(code);
                 at = printout::write_line(out, at, position + k as u64, answer);
             }
             Turn::Far => {
-                soon = notes::refresh(soon, &dues, e.time);
+                soon = expiry::refresh(soon, &dues, e.time);
                 let m = follow::step(s.remote, e, identifier);
-                s = turn::station_far(s, e, identifier, m.remote);
-                let answer = turn::far_answer(m);
+                s = outcome::station_far(s, e, identifier, m.remote);
+                let answer = outcome::far_answer(m);
                 at = printout::write_line(out, at, position + k as u64, answer);
             }
             Turn::Done => {
-                let x = turn::acted(e, seen);
+                let x = deed::acted(e, seen);
                 let d = x.call;
                 calls[i] = d;
-                free = notes::flip(free, i, c.direction, d.direction);
-                let due = notes::quiet_until(d);
+                free = bits::flip(free, i, c.direction, d.direction);
+                let due = expiry::quiet_until(d);
                 dues[i] = due;
-                soon = notes::sooner(soon, due);
-                let id = notes::held_by(d);
+                soon = expiry::sooner(soon, due);
+                let id = draw::held_by(d);
                 held[i] = id;
-                s = turn::station_on(s, e, identifier);
-                let answer = turn::answer_of(i as u8, x);
+                s = outcome::station_on(s, e, identifier);
+                let answer = outcome::answer_of(i as u8, x);
                 at = printout::write_line(out, at, position + k as u64, answer);
             }
         }

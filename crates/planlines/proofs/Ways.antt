@@ -4,11 +4,11 @@ use mathlib.Core.List.{List, [], _++_, append-assoc}
 use mathlib.Core.Path.{_≡_, refl, sym, _∙_}
 use native.Mathlib.Omega.{arith}
 use lib.ListN.{length}
-use Rattle.printout.specs.Line.{decimal}
-use Rattle.printout.specs.Written.{Written}
-use Rattle.printout.proofs.Digits.{decimal-within}
-use Rattle.printout.proofs.Texts.{and-then}
-use Rattle.printout.proofs.Pieces.{unwritten}
+use Rattle.digits.specs.Digits.{decimal}
+use Rattle.digits.specs.Written.{Written}
+use Rattle.digits.proofs.Digits.{decimal-within}
+use Rattle.digits.proofs.Texts.{and-then}
+use Rattle.digits.proofs.Texts.{unwritten}
 use Rattle.rehearsal.specs.declared.Panel.{Panel}
 use Rattle.rehearsal.specs.Plan.{panelAt, reasonOf, next}
 use Rattle.planlines.specs.Lines.{stepText, way}

@@ -5,11 +5,11 @@ use mathlib.Core.Path.{_≡_}
 use native.Mathlib.Omega.{arith}
 use borrow.Author.Tests.{eq-eqb, ne-eqb}
 use lib.ListN.{length}
-use Rattle.printout.specs.Line.{decimal, space, newline}
-use Rattle.printout.specs.Cases.{charactersOf}
-use Rattle.printout.specs.Written.{Written}
-use Rattle.printout.proofs.Digits.{decimal-within}
-use Rattle.printout.proofs.Texts.{and-then, in-three}
+use Rattle.digits.specs.Digits.{decimal, space, newline}
+use Rattle.digits.specs.Digits.{charactersOf}
+use Rattle.digits.specs.Written.{Written}
+use Rattle.digits.proofs.Digits.{decimal-within}
+use Rattle.digits.proofs.Texts.{and-then, in-three}
 use Rattle.rehearsal.specs.declared.Rehearsed.{Rehearsed}
 use Rattle.rehearsal.specs.Plan.{panelsOf}
 use Rattle.planlines.specs.Lines.{endingWord, reasonWord, stepText, way, lastText, outcomeText, answerText, faultText}

@@ -5,8 +5,8 @@ use mathlib.Core.List.{List, _++_}
 use lib.Dec.{eqb}
 use Rattle.ground.specs.Choice.{when_then_else_}
 use Rattle.event.specs.Kinds.{cfu, cfb}
-use Rattle.printout.specs.Line.{decimal, space, newline}
-use Rattle.printout.specs.Cases.{charactersOf}
+use Rattle.digits.specs.Digits.{decimal, space, newline}
+use Rattle.digits.specs.Digits.{charactersOf}
 use Rattle.rehearsal.specs.declared.Panel.{Panel}
 use Rattle.rehearsal.specs.declared.Rehearsed.{Rehearsed}
 use Rattle.rehearsal.specs.Plan.{panelsOf, panelAt, reasonOf, next}

@@ -1,7 +1,7 @@
 // The lines of an answer, written into a lent buffer: what the rehearsal of a plan says, or which line is no part of a plan.
 ghost use Prim.Native.Nat.{_+_, _*_, _≤_};
 ghost use lib.ListN.{length};
-ghost use Rattle.printout.specs.Written.{Written};
+ghost use Rattle.digits.specs.Written.{Written};
 ghost use Rattle.rehearsal.specs.Plan.{panelsOf};
 ghost use Rattle.planlines.specs.Lines.{endingWord, reasonWord, stepText, way, lastText, outcomeText, answerText, rehearsalText, faultText};
 use rehearsal::Rehearsed;
@@ -53,10 +53,10 @@ fn write_step(out: &mut [u8], at: usize, panel: u16, reason: u8) -> usize
     ensures { λ r. ⌜ Written (stepText panel reason) at (now (out .entry)) (now (out .exit)) r ⌝ }
     ensures { λ r. ⌜ r ≤ at + 11 ⌝ }
 {
-    let behind_panel = printout::write_decimal(out, at, panel as u64);
-    let before_reason = printout::put(out, behind_panel, 32);
+    let behind_panel = digits::write_decimal(out, at, panel as u64);
+    let before_reason = digits::put(out, behind_panel, 32);
     let behind_reason = write_reason(out, before_reason, reason);
-    printout::put(out, behind_reason, 32)
+    digits::put(out, behind_reason, 32)
 }
 
 // The way: each panel that forwarded the call, then the last.
@@ -69,13 +69,13 @@ fn write_way(out: &mut [u8], at: usize, plan: &[u16], start: u16, forwards: u8) 
     let mut panel = start;
     let mut left = forwards;
     while left > 0 {
-        let p = rehearsal::panel_at(plan, panel);
-        let reason = rehearsal::reason_of(p);
+        let p = panels::panel_at(plan, panel);
+        let reason = panels::reason_of(p);
         next = write_step(out, next, panel, reason);
-        panel = rehearsal::forwards_to(p);
+        panel = panels::forwards_to(p);
         left -= 1;
     }
-    printout::write_decimal(out, next, panel as u64)
+    digits::write_decimal(out, next, panel as u64)
 }
 
 // Number and last panel.
@@ -84,10 +84,10 @@ fn write_last(out: &mut [u8], at: usize, code: u8, last: u16) -> usize
     ensures { λ r. ⌜ Written (lastText code last) at (now (out .entry)) (now (out .exit)) r ⌝ }
     ensures { λ r. ⌜ r ≤ at + 10 ⌝ }
 {
-    let behind_code = printout::write_decimal(out, at, code as u64);
-    let before_last = printout::put(out, behind_code, 32);
-    let behind_last = printout::write_decimal(out, before_last, last as u64);
-    printout::put(out, behind_last, 32)
+    let behind_code = digits::write_decimal(out, at, code as u64);
+    let before_last = digits::put(out, behind_code, 32);
+    let behind_last = digits::write_decimal(out, before_last, last as u64);
+    digits::put(out, behind_last, 32)
 }
 
 // The first line: number, last panel, ending and counter.
@@ -98,9 +98,9 @@ fn write_outcome(out: &mut [u8], at: usize, code: u8, last: u16, ending: u8, cou
 {
     let behind_last = write_last(out, at, code, last);
     let behind_ending = write_ending(out, behind_last, ending);
-    let before_counter = printout::put(out, behind_ending, 32);
-    let behind_counter = printout::write_decimal(out, before_counter, counter as u64);
-    printout::put(out, behind_counter, 10)
+    let before_counter = digits::put(out, behind_ending, 32);
+    let behind_counter = digits::write_decimal(out, before_counter, counter as u64);
+    digits::put(out, behind_counter, 10)
 }
 
 // The answer: 2,831 bytes at most, with a counter of 255. It asks for room for 20 digits at each number.
@@ -111,9 +111,9 @@ fn write_answer(out: &mut [u8], at: usize, plan: &[u16], start: u16, a: Rehearse
     if a.code == 0 {
         let behind_outcome = write_outcome(out, at, a.code, a.last, a.ending, a.counter);
         let behind_way = write_way(out, behind_outcome, plan, start, a.counter);
-        return printout::put(out, behind_way, 10);
+        return digits::put(out, behind_way, 10);
     }
-    let behind_code = printout::write_decimal(out, at, a.code as u64);
+    let behind_code = digits::write_decimal(out, at, a.code as u64);
     put_bytes(out, behind_code, b" - - -\n")
 }
 
@@ -122,7 +122,7 @@ pub fn write_rehearsal(out: &mut [u8], at: usize, plan: &[u16], start: u16) -> u
     requires { ⌜ at + 2845 ≤ length (now out) ⌝ }
     ensures { λ r. ⌜ Written (rehearsalText (now (plan .entry)) start) at (now (out .entry)) (now (out .exit)) r ⌝ }
 {
-    let a = rehearsal::rehearse(plan, start);
+    let a = offers::rehearse(plan, start);
     write_answer(out, at, plan, start, a)
 }
 
@@ -132,6 +132,6 @@ pub fn write_fault(out: &mut [u8], at: usize, line: usize) -> usize
     ensures { λ r. ⌜ Written (faultText line) at (now (out .entry)) (now (out .exit)) r ⌝ }
 {
     let before_line = put_bytes(out, at, b"rehearse: line ");
-    let behind_line = printout::write_decimal(out, before_line, line as u64);
+    let behind_line = digits::write_decimal(out, before_line, line as u64);
     put_bytes(out, behind_line, b" is no part of a plan\n")
 }

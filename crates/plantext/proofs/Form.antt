@@ -10,7 +10,7 @@ use lib.Dec.{eqb, ltb, leb}
 use lib.ListN.{length, length-append}
 use Rattle.ground.proofs.Bools.{by-cases, nor-l, nor-r, is-false, from-false}
 use Rattle.ground.proofs.Walks.{both}
-use Rattle.printout.specs.Line.{digit, space, newline}
+use Rattle.digits.specs.Digits.{digit, space, newline}
 use Rattle.plantext.specs.declared.Reading.{Reading}
 use Rattle.plantext.specs.Text.{beginning, numbersBefore, atFault, digitRead, spaceRead, wholeLine, newlineRead, sound, isDigit, isNewline, byteRead, textRead}
 use Rattle.plantext.specs.Form.{Digits, none, more, Number, Numbers, one, and, Lines, start, panel, whole, unended, ReadsOnly}

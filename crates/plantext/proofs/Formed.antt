@@ -8,7 +8,7 @@ use borrow.Author.Tests.{eq-eqb, le-leb, lt-leb, lt-ltb}
 use lib.Dec.{ltb, leb}
 use lib.ListN.{length, length-append}
 use Rattle.ground.proofs.Bools.{by-cases}
-use Rattle.printout.specs.Line.{digit, space, newline}
+use Rattle.digits.specs.Digits.{digit, space, newline}
 use Rattle.plantext.specs.declared.Reading.{Reading}
 use Rattle.plantext.specs.Text.{beginning, onward, numbersBefore, byteRead, textRead, closing}
 use Rattle.plantext.specs.Form.{Digits, none, more, Number, Numbers, one, and, Lines, start, panel, whole, unended, ReadsAll}

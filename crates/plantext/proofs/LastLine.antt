@@ -9,7 +9,7 @@ use borrow.Author.Tests.{eq-eqb, ne-eqb, lt-ltb, le-ltb, lt-leb, eqb-true, eqb-f
 use lib.Dec.{eqb, ltb, leb}
 use Rattle.ground.specs.Choice.{when_then_else_}
 use Rattle.ground.proofs.Bools.{by-cases}
-use Rattle.printout.specs.Line.{newline}
+use Rattle.digits.specs.Digits.{newline}
 use Rattle.plantext.specs.declared.Reading.{Reading}
 use Rattle.plantext.specs.Text.{beginning, onward, atFault, lineRead, isNewline, wholeLine, newlineRead, byteRead, stored, textRead, planAfter, closing}
 use Rattle.plantext.specs.Statements.{LastNewline}

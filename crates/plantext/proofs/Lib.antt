@@ -1,5 +1,4 @@
 pub mod Bytes
-pub mod Folds
 pub mod Faults
 pub mod ReadBack
 pub mod LastLine

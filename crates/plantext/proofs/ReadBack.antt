@@ -11,9 +11,9 @@ use lib.ListN.{length, take, drop, length-append, length-take, length-drop}
 use lib.Seq.{paste-zero, take-at}
 use Rattle.ground.specs.Lists.{all}
 use Rattle.ground.proofs.Bools.{and-l, and-r, is-true, by-cases}
-use Rattle.printout.specs.Line.{digit, digits, decimal, space, newline}
-use Rattle.printout.specs.Written.{wrote}
-use Rattle.printout.proofs.Texts.{wrote-on}
+use Rattle.digits.specs.Digits.{digit, digits, decimal, space, newline}
+use Rattle.digits.specs.Written.{wrote}
+use Rattle.digits.proofs.Texts.{wrote-on}
 use Rattle.rehearsal.specs.Plan.{panelsOf}
 use Rattle.plantext.specs.declared.Reading.{Reading}
 use Rattle.plantext.specs.Text.{beginning, byteRead, markByte, packed, placeOf, stored, textRead, planAfter, closing, numbersLent}

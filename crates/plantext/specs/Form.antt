@@ -4,7 +4,7 @@ use Prim.Native.Nat.{ℕ, _+_, _*_, _≤_}
 use mathlib.Core.Path.{_≡_}
 use mathlib.Core.List.{List, [], _∷_, _++_}
 use lib.ListN.{length}
-use Rattle.printout.specs.Line.{digit, space, newline}
+use Rattle.digits.specs.Digits.{digit, space, newline}
 use Rattle.plantext.specs.Text.{wholeRead}
 
 -- decimal digits, bytes 48 to 57, with their value; zeros may lead

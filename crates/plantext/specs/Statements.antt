@@ -7,7 +7,7 @@ use lib.Dec.{T, leb}
 use lib.ListN.{length, take}
 use Rattle.ground.specs.Choice.{when_then_else_}
 use Rattle.ground.specs.Lists.{all}
-use Rattle.printout.specs.Line.{decimal, space, newline}
+use Rattle.digits.specs.Digits.{decimal, space, newline}
 use Rattle.rehearsal.specs.declared.Panel.{Panel}
 use Rattle.rehearsal.specs.Plan.{panelsOf}
 use Rattle.rehearsal.specs.Rehearsal.{refusal, rehearsalOf}

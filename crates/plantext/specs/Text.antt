@@ -6,7 +6,7 @@ use mathlib.Core.List.{List, [], _∷_}
 use lib.Dec.{eqb, ltb, leb}
 use lib.ListN.{length}
 use Rattle.ground.specs.Choice.{when_then_else_}
-use Rattle.printout.specs.Written.{wrote}
+use Rattle.digits.specs.Written.{wrote}
 use Rattle.plantext.specs.declared.Reading.{Reading}
 
 -- before the first byte

@@ -17,8 +17,9 @@ use Rattle.remote.specs.Rules.{lapse, remoteRefusal}
 use Rattle.station.specs.Table.{requestsOf, sound}
 use Rattle.station.specs.Refusals.{refusalOnSound, refusal}
 use Rattle.station.specs.Step.{done, byNumber, step}
-use Rattle.printout.specs.Line.{digits, line, printed}
-use Rattle.printout.specs.Cases.{charactersOf, casesP, expectedP}
+use Rattle.digits.specs.Digits.{digits, charactersOf}
+use Rattle.printout.specs.Line.{line, printed}
+use Rattle.printout.specs.Cases.{casesP, expectedP}
 
 pub cases-p : casesP ≡ expectedP
 unfolding first all any wellMade distinct firstFree room lastAfter afterAll takeAll waitsHold waitsUnused soundOutgoing soundIncoming soundCall basicForbids stateForbids actIncoming actOutgoing act requestsOf sound refusalOnSound refusal done byNumber step digits line printed charactersOf callMade remoteHolds identifiersOf far.step lapse remoteRefusal

@@ -3,7 +3,7 @@ use mathlib.Core.List.{[], _∷_, _++_, flatten}
 use mathlib.Core.Path.{_≡_, refl}
 use lib.ListN.{replicate}
 use Rattle.ground.specs.Lists.{first, all, any}
-use Rattle.event.specs.Record.{eventAt, eventsFrom}
+use Rattle.wire.specs.Record.{eventAt, eventsFrom}
 use Rattle.event.specs.WellMade.{callMade, wellMade}
 use Rattle.identifier.specs.Identifier.{distinct, firstFree}
 use Rattle.waits.specs.Waits.{room, lastAfter, afterAll, takeAll}
@@ -20,9 +20,9 @@ use Rattle.remote.specs.Rules.{lapse, remoteRefusal}
 use Rattle.station.specs.Table.{requestsOf, sound}
 use Rattle.station.specs.Refusals.{refusalOnSound, refusal}
 use Rattle.station.specs.Step.{done, byNumber, step}
-use Rattle.printout.specs.Line.{digits, line, printed}
+use Rattle.digits.specs.Digits.{digits, charactersOf}
+use Rattle.printout.specs.Line.{line, printed}
 use Rattle.printout.specs.Panel.{panelText}
-use Rattle.printout.specs.Cases.{charactersOf}
 
 -- nothing printed for no input; an open outgoing call, then a record that is cut behind its first byte
 pub panel-small : panelText [] ++ panelText (1 ∷ replicate 10 0 ++ (101 ∷ replicate 11 0) ++ (1 ∷ 15 ∷ []))

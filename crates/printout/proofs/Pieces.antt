@@ -1,26 +1,26 @@
 -- The pieces of a line, in the order in which they are written. Assumes nothing.
-use Prim.Native.Nat.{ℕ, _+_, _≤_}
+use Prim.Native.Nat.{ℕ, suc, _+_, _^_, _≤_, _<_}
 use mathlib.Core.List.{List, [], _∷_, _++_, append-assoc}
-use mathlib.Core.Path.{_≡_, sym}
-use native.Mathlib.Nat.{add-zero}
+use mathlib.Core.Path.{_≡_}
 use native.Mathlib.Omega.{arith}
 use borrow.Author.Tests.{eq-eqb, ne-eqb}
 use lib.Dec.{eqb}
 use lib.ListN.{length}
-use lib.Seq.{paste-zero}
 use Rattle.ground.specs.Choice.{when_then_else_}
+use Rattle.ground.proofs.Bools.{by-cases}
 use Rattle.call.specs.declared.Sent.{Sent}
 use Rattle.notice.specs.Notice.{noNotice, noNumber}
 use Rattle.call.specs.Messages.{noIdentifier, noCounter}
 use Rattle.station.specs.declared.Answer.{Answer}
 use Rattle.station.specs.Station.{noCall}
-use Rattle.printout.specs.Line.{decimal, legText, space, newline, dash, column, letterWithLeg, messages, line}
-use Rattle.printout.specs.Written.{Written}
-use Rattle.printout.proofs.Texts.{and-then, in-three}
+use Rattle.digits.specs.Digits.{decimal, space, newline}
+use Rattle.digits.specs.Written.{Written}
+use Rattle.digits.proofs.Texts.{and-then, in-three, unwritten}
+use Rattle.digits.proofs.Digits.{decimal-within}
+use Rattle.printout.specs.Line.{legText, dash, column, letterWithLeg, messages, line}
 
--- no bytes
-pub unwritten : (at : ℕ) (old : List ℕ) → Written [] at old old at
-unwritten at old = record { text = paste-zero old at []; next = sym (add-zero at) }
+pub column-within : (k none n : ℕ) → n < 10 ^ suc k → length (space ++ column none n) ≤ suc (suc k)
+column-within k none n h = by-cases (eqb n none) (λ t. rw t (omega arith)) (λ f. rw f (omega (arith, decimal-within k n h)))
 
 module _ (at : ℕ) (old mid new : List ℕ) (next r : ℕ) (room : at + 21 ≤ length old) where
   module _ (none n : ℕ) where

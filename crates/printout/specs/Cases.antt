@@ -1,8 +1,5 @@
 -- "Marked P: the nine lines above; counter 14 and limit 15 diverts with 15; counter 15 is 7; 65 records is 1."
 use Prim.Native.Nat.{ℕ}
-use Prim.Native.String as text
-use Prim.Native.String.{String}
-use Prim.Native.Char.{code}
 use mathlib.Core.List.{List, [], _∷_, _++_, map}
 use lib.ListN.{replicate}
 use Rattle.event.specs.declared.Event.{Event}
@@ -11,12 +8,8 @@ use Rattle.call.specs.declared.Call.{Call}
 use Rattle.call.specs.Record.{freeCall}
 use Rattle.notice.specs.Notice.{marked}
 use Rattle.station.specs.Station.{freshStation}
+use Rattle.digits.specs.Digits.{charactersOf}
 use Rattle.printout.specs.Line.{printed}
-
--- the characters of a text
-unfoldable pub charactersOf : String → List ℕ
-charactersOf text.[] = []
-charactersOf (text._∷_ c rest) = code c ∷ charactersOf rest
 
 -- an event by its kind, call, leg, message, reason, option, counter, flag; identifier, first, second, third number; time
 abbrev pub event : ℕ → ℕ → ℕ → ℕ → ℕ → ℕ → ℕ → ℕ → ℕ → ℕ → ℕ → ℕ → ℕ → Event

@@ -1,4 +1,3 @@
 pub mod Line
 pub mod Panel
-pub mod Written
 pub mod Cases

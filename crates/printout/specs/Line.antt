@@ -1,8 +1,8 @@
 -- "The panel printout": "prints a line each: position from 0, answer number, call, notice (its reason), number, identifier,
 -- counter, messages; `-` for none."
-use Prim.Native.Nat.{ℕ, zero, suc, _+_, _/_, _%_}
+use Prim.Native.Nat.{ℕ, suc}
 use mathlib.Core.List.{List, [], _∷_, _++_}
-use lib.Dec.{ltb, eqb}
+use lib.Dec.{eqb}
 use Rattle.ground.specs.Choice.{when_then_else_}
 use Rattle.event.specs.declared.Event.{Event}
 use Rattle.notice.specs.Notice.{noNotice, noNumber}
@@ -15,30 +15,10 @@ use Rattle.station.specs.declared.Station.{Station}
 use Rattle.station.specs.declared.Answer.{Answer}
 use Rattle.station.specs.Station.{noCall}
 use Rattle.station.specs.Step.{TurnTaken, turns}
-
--- characters are their ASCII numbers
-abbrev pub digit : ℕ → ℕ
-digit n = 48 + n
-
-abbrev pub space : List ℕ
-space = 32 ∷ []
-
-abbrev pub newline : List ℕ
-newline = 10 ∷ []
+use Rattle.digits.specs.Digits.{decimal, space, newline}
 
 abbrev pub dash : List ℕ
 dash = 45 ∷ []
-
--- the last so many decimal digits that a number needs
-unfoldable pub digits : ℕ → ℕ → List ℕ
-digits zero n = []
-digits (suc more) n =
-    let higher = digits more (n / 10) in
-    when ltb n 10 then digit n ∷ [] else higher ++ (digit (n % 10) ∷ [])
-
--- a number in decimal: 64 bits want at most 20 digits
-abbrev pub decimal : ℕ → List ℕ
-decimal n = digits 20 n
 
 -- a column: its value, or a dash for none
 abbrev pub column : ℕ → ℕ → List ℕ

@@ -5,7 +5,7 @@ use lib.Dec.{eqb}
 use lib.ListN.{length, replicate}
 use Rattle.ground.specs.Choice.{when_then_else_}
 use Rattle.event.specs.declared.Event.{Event}
-use Rattle.event.specs.Record.{eventsFrom}
+use Rattle.wire.specs.Record.{eventsFrom}
 use Rattle.call.specs.declared.Call.{Call}
 use Rattle.call.specs.Record.{freeCall}
 use Rattle.station.specs.declared.Station.{Station}

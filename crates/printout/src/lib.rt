@@ -1,61 +1,28 @@
 // The panel printout: the text of a line, written into a lent buffer.
 ghost use mathlib.Core.List.{[], _∷_, _++_};
-ghost use Prim.Native.Nat.{_+_, _/_, _%_, _<_, _≤_};
+ghost use Prim.Native.Nat.{_+_, _≤_};
 ghost use lib.ListN.{length};
 ghost use lib.Dec.{eqb};
 ghost use Rattle.ground.specs.Choice.{when_then_else_};
-ghost use Rattle.printout.specs.Line.{digit, decimal, space, newline, column, legText, messages, line, cutLine};
+ghost use Rattle.digits.specs.Digits.{decimal, space, newline};
+ghost use Rattle.digits.specs.Written.{Written};
+ghost use Rattle.printout.specs.Line.{column, legText, messages, line, cutLine};
 ghost use Rattle.notice.specs.Notice.{noNotice, noNumber};
 ghost use Rattle.call.specs.Messages.{noIdentifier, noCounter, noLetter};
 ghost use Rattle.station.specs.Station.{noCall};
-ghost use Rattle.printout.specs.Written.{Written};
 use call::Sent;
 use station::Answer;
-
-// One byte.
-pub fn put(out: &mut [u8], at: usize, byte: u8) -> usize
-    requires { ⌜ at < length (now out) ⌝ }
-    ensures { λ r. ⌜ Written (byte ∷ []) at (now (out .entry)) (now (out .exit)) r ⌝ }
-{
-    out[at] = byte;
-    at + 1
-}
-
-// Two digits.
-fn put_pair(out: &mut [u8], at: usize, n: u64) -> usize
-    requires { ⌜ (n < 100) × (at + 2 ≤ length (now out)) ⌝ }
-    ensures { λ r. ⌜ Written (digit (n / 10) ∷ digit (n % 10) ∷ []) at (now (out .entry)) (now (out .exit)) r ⌝ }
-{
-    out[at] = 48 + (n / 10) as u8;
-    out[at + 1] = 48 + (n % 10) as u8;
-    at + 2
-}
-
-// A number in decimal, two digits at a time.
-pub fn write_decimal(out: &mut [u8], at: usize, n: u64) -> usize
-    requires { ⌜ at + 20 ≤ length (now out) ⌝ }
-    ensures { λ r. ⌜ Written (decimal n) at (now (out .entry)) (now (out .exit)) r ⌝ }
-{
-    if n < 10 {
-        return put(out, at, 48 + n as u8);
-    }
-    if n < 100 {
-        return put_pair(out, at, n);
-    }
-    let next = write_decimal(out, at, n / 100);
-    put_pair(out, next, n % 100)
-}
 
 // A column with the space before it: its value, or a dash for none.
 fn write_column(out: &mut [u8], at: usize, none: u64, n: u64) -> usize
     requires { ⌜ at + 21 ≤ length (now out) ⌝ }
     ensures { λ r. ⌜ Written (space ++ column none n) at (now (out .entry)) (now (out .exit)) r ⌝ }
 {
-    let next = put(out, at, 32);
+    let next = digits::put(out, at, 32);
     if n == none {
-        return put(out, next, 45);
+        return digits::put(out, next, 45);
     }
-    write_decimal(out, next, n)
+    digits::write_decimal(out, next, n)
 }
 
 // Position and answer number.
@@ -64,9 +31,9 @@ fn write_start(out: &mut [u8], at: usize, position: u64, code: u8) -> usize
     ensures { λ r. ⌜ Written (decimal position ++ space ++ decimal code) at (now (out .entry)) (now (out .exit)) r ⌝ }
     ensures { λ r. ⌜ r ≤ at + 24 ⌝ }
 {
-    let behind = write_decimal(out, at, position);
-    let next = put(out, behind, 32);
-    write_decimal(out, next, code as u64)
+    let behind = digits::write_decimal(out, at, position);
+    let next = digits::put(out, behind, 32);
+    digits::write_decimal(out, next, code as u64)
 }
 
 // Call, notice and number.
@@ -89,7 +56,7 @@ fn write_leg(out: &mut [u8], at: usize, leg: u8) -> usize
     if leg == 0 {
         return at;
     }
-    write_decimal(out, at, leg as u64)
+    digits::write_decimal(out, at, leg as u64)
 }
 
 // A message's letter with its leg; a letter of 0 is no message.
@@ -101,7 +68,7 @@ fn write_message(out: &mut [u8], at: usize, letter: u8, leg: u8) -> usize
     if letter == 0 {
         return at;
     }
-    let next = put(out, at, letter);
+    let next = digits::put(out, at, letter);
     write_leg(out, next, leg)
 }
 
@@ -115,7 +82,7 @@ fn write_messages(out: &mut [u8], at: usize, sent: Sent) -> usize
     let b = sent.second;
     let c = sent.third;
     if a.letter == 0 {
-        return put(out, at, 45);
+        return digits::put(out, at, 45);
     }
     let behind_a = write_message(out, at, a.letter, a.leg);
     let behind_b = write_message(out, behind_a, b.letter, b.leg);
@@ -130,9 +97,9 @@ fn write_end(out: &mut [u8], at: usize, identifier: u32, counter: u8, sent: Sent
 {
     let behind_identifier = write_column(out, at, 65536, identifier as u64);
     let behind_counter = write_column(out, behind_identifier, 0, counter as u64);
-    let next = put(out, behind_counter, 32);
+    let next = digits::put(out, behind_counter, 32);
     let behind_messages = write_messages(out, next, sent);
-    put(out, behind_messages, 10)
+    digits::put(out, behind_messages, 10)
 }
 
 // The line of an answer at its position: 67 bytes at most. It asks for room for 20 digits at each number.
@@ -156,6 +123,6 @@ pub fn write_cut(out: &mut [u8], at: usize, count: usize) -> usize
     out[at + 1] = 117;
     out[at + 2] = 116;
     out[at + 3] = 32;
-    let behind = write_decimal(out, at + 4, count as u64);
-    put(out, behind, 10)
+    let behind = digits::write_decimal(out, at + 4, count as u64);
+    digits::put(out, behind, 10)
 }

@@ -38,7 +38,7 @@ fn turn(r: Reading, plan: &mut [u16], input: &mut [u8]) -> Run {
             state: 1,
         };
     }
-    let next = plantext::read_piece(r, plan, &input[..count]);
+    let next = planreading::read_piece(r, plan, &input[..count]);
     Run {
         reading: next,
         state: 0,
@@ -61,9 +61,9 @@ fn tell_fault(line: usize) {
 
 // At the end of the text.
 fn conclude(r: Reading, plan: &mut [u16]) {
-    let whole = plantext::finish(r, plan);
+    let whole = planreading::finish(r, plan);
     if whole.fault == 0 {
-        let n = plantext::numbers_lent(whole, plan.len());
+        let n = planreading::numbers_lent(whole, plan.len());
         print_rehearsal(&plan[..n], whole.start);
     } else {
         tell_fault(whole.fault);
@@ -71,7 +71,7 @@ fn conclude(r: Reading, plan: &mut [u16]) {
 }
 
 fn main() {
-    let mut reading = plantext::begin();
+    let mut reading = planreading::begin();
     let mut plan = plan_buffer();
     let mut input = io::large_buffer();
     // A proved loop ends, and nothing says that the text does: more turns than any text takes.

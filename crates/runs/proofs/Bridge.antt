@@ -9,7 +9,7 @@ use lib.ListN.{length, take-append-drop}
 use Rattle.ground.specs.Choice.{when_then_else_}
 use Rattle.ground.proofs.Bools.{by-cases}
 use Rattle.event.specs.declared.Event.{Event}
-use Rattle.event.specs.Record.{eventsFrom}
+use Rattle.wire.specs.Record.{eventsFrom}
 use Rattle.station.specs.Step as list
 use Rattle.station.specs.Step.{Outcome, step}
 use Rattle.station.proofs.Places.{length-stays}

@@ -9,7 +9,7 @@ use lib.Dec.{eqb}
 use lib.ListN.{length}
 use Rattle.ground.specs.Choice.{when_then_else_}
 use Rattle.event.specs.declared.Event.{Event}
-use Rattle.event.specs.Record.{eventAt, eventsFrom}
+use Rattle.wire.specs.Record.{eventAt, eventsFrom}
 use Rattle.board.specs.declared.Board.{Board}
 use Rattle.board.specs.Board.{Stepped, soundBoard, stepBoard, stepSoundBoard}
 use Rattle.board.proofs.Boards.{refusedBoard}

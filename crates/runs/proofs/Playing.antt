@@ -6,7 +6,7 @@ use native.Mathlib.Omega.{arith}
 use borrow.Author.Tests.{ne-eqb}
 use lib.ListN.{length, set}
 use Rattle.event.specs.declared.Event.{Event}
-use Rattle.event.specs.Record.{eventAt}
+use Rattle.wire.specs.Record.{eventAt}
 use Rattle.call.specs.declared.Call.{Call}
 use Rattle.call.specs.declared.Effect.{Effect}
 use Rattle.remote.specs.declared.Moved.{Moved}

@@ -4,7 +4,7 @@ use mathlib.Core.List.{List}
 use lib.Dec.{ltb}
 use lib.ListN.{length}
 use Rattle.ground.specs.Choice.{when_then_else_}
-use Rattle.event.specs.Record.{eventsFrom}
+use Rattle.wire.specs.Record.{eventsFrom}
 use Rattle.station.specs.Step as list
 use Rattle.board.specs.declared.Board.{Board}
 use Rattle.board.specs.Board.{tableOf, boardWith}

@@ -5,7 +5,7 @@ ghost use mathlib.Core.Bool.{true};
 ghost use Rattle.board.specs.Board.{soundBoard};
 ghost use Rattle.runs.specs.Run.{runBoard};
 use board::Board;
-use turn::Seen;
+use sight::Seen;
 use turn::Turn;
 
 // What a run leaves; `cut` is the byte count of a cut last record.
@@ -35,11 +35,11 @@ fn run_tested(b: Board, events: &[u8]) -> Ran
     let n = events.len() / 24;
     let mut k: usize = 0;
     while k < n {
-        let e = event::event_at(events, k * 24);
+        let e = wire::event_at(events, k * 24);
         let place = board::place_on(e, free, soon, &dues);
         let i = board::within(place, len);
         let c = calls[i];
-        let identifier = notes::identifier_in(e, &held, s.remote.pending, s.next);
+        let identifier = draw::identifier_in(e, &held, s.remote.pending, s.next);
         let seen = Seen {
             len: len,
             place: place,
@@ -52,22 +52,22 @@ fn run_tested(b: Board, events: &[u8]) -> Ran
                 refused += 1;
             }
             Turn::Far => {
-                soon = notes::refresh(soon, &dues, e.time);
+                soon = expiry::refresh(soon, &dues, e.time);
                 let m = follow::step(s.remote, e, identifier);
-                s = turn::station_far(s, e, identifier, m.remote);
+                s = outcome::station_far(s, e, identifier, m.remote);
                 done += 1;
             }
             Turn::Done => {
-                let x = turn::acted(e, seen);
+                let x = deed::acted(e, seen);
                 let d = x.call;
                 calls[i] = d;
-                free = notes::flip(free, i, c.direction, d.direction);
-                let due = notes::quiet_until(d);
+                free = bits::flip(free, i, c.direction, d.direction);
+                let due = expiry::quiet_until(d);
                 dues[i] = due;
-                soon = notes::sooner(soon, due);
-                let id = notes::held_by(d);
+                soon = expiry::sooner(soon, due);
+                let id = draw::held_by(d);
                 held[i] = id;
-                s = turn::station_on(s, e, identifier);
+                s = outcome::station_on(s, e, identifier);
                 done += 1;
             }
         }

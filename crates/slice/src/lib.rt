@@ -21,7 +21,7 @@ pub fn record_at(table: &[Call], n: usize, i: usize) -> Call
     if i < n {
         return table[i];
     }
-    call::free_call()
+    blank::free_call()
 }
 
 // The record at a place becomes c; none does where the count is 0.

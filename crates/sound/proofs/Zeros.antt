@@ -8,10 +8,6 @@ use Rattle.call.specs.declared.Call.{Call}
 use Rattle.call.specs.Soundness.{historyUnused, outgoingUnused}
 use Rattle.sound.specs.Words.{legsWord, partyWord, codesWord, numbersWord}
 
-pub and-assoc : (a b c : Bool) → a && (b && c) ≡ (a && b) && c
-and-assoc true b c = refl
-and-assoc false b c = refl
-
 pub legs-zero : (c : Call) → eqb (legsWord c) 0 ≡ (eqb (c .cdo) 0 && eqb (c .cdr) 0)
 legs-zero c = two (c .cdo) (c .cdr) 255
 

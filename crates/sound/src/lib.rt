@@ -2,14 +2,11 @@
 ghost use mathlib.Core.Path.{_≡_};
 ghost use mathlib.Core.Bool.{_&&_};
 ghost use lib.Dec.{eqb, leb};
-ghost use Rattle.call.specs.Record.{fits as fitsState};
 ghost use Rattle.call.specs.Soundness.{historyUnused, outgoingUnused, incomingUnused, outgoingCodes, waitingHolds, historyHolds, divertHolds, soundCall};
-ghost use Rattle.sound.specs.Bounds.{inBounds};
 ghost use Rattle.sound.specs.Cases.{divertedBy, requestBy, incomingBase, incomingRest, incomingBy, outgoingBase, outgoingPlain, outgoingBy};
 ghost use Rattle.sound.specs.Words.{legsWord, partyWord, codesWord, numbersWord};
 use call::Call;
 use notice::History;
-use station::Station;
 
 // Fields that lie side by side in memory, as one number: the compiler reads it by one load. CDO and CDR.
 fn legs_word(c: Call) -> u64
@@ -62,7 +59,7 @@ fn outgoing_unused(c: Call) -> bool
     let waiting = c.waiting;
     let legs = legs_word(c);
     let party = party_word(c);
-    let unused = waits::waits_unused(waiting);
+    let unused = soundwaits::waits_unused(waiting);
     (legs == 0) & (party == 0) & unused
 }
 
@@ -80,13 +77,6 @@ fn history_unused(h: History) -> bool
     ensures { λ r. ⌜ r ≡ historyUnused h ⌝ }
 {
     (h.seen == 0) & (h.strictest == 0) & (h.forbidden == 0) & (h.shown == 0) & (h.nominated == 0)
-}
-
-// "reason fits the basic state (cfu and cfb Proceeding, cfnr Received)"
-pub fn fits(reason: u8, c: Call) -> bool
-    ensures { λ r. ⌜ r ≡ fitsState reason c ⌝ }
-{
-    (((reason == 1) | (reason == 2)) & (c.basic == 1)) | ((reason == 3) & (c.basic == 2))
 }
 
 // The call was diverted up to 15 times before, or not at all.
@@ -107,7 +97,7 @@ fn request_holds(c: Call, last: u64) -> bool
 {
     let cds = c.cds;
     let granted = c.granted;
-    let fit = fits(c.reason, c);
+    let fit = reasons::fits(c.reason, c);
     if cds == 1 {
         return (granted == 0) & fit & !(c.identifier == 0) & (c.start <= last);
     }
@@ -166,9 +156,9 @@ fn waiting_holds(c: Call) -> bool
     let waiting = c.waiting;
     let delivered = c.basic == 2;
     if c.cdr == 1 {
-        delivered & waits::waits_hold(waiting)
+        delivered & soundwaits::waits_hold(waiting)
     } else {
-        waits::waits_unused(waiting)
+        soundwaits::waits_unused(waiting)
     }
 }
 
@@ -218,7 +208,7 @@ fn sound_outgoing(c: Call) -> bool
     let waiting = c.waiting;
     if outgoing_base(c) {
         if outgoing_plain(c) {
-            return waits::waits_unused(waiting);
+            return soundwaits::waits_unused(waiting);
         }
         if waiting_holds(c) {
             if history_holds(history) {
@@ -254,15 +244,4 @@ pub fn sound_call(c: Call, last: u64) -> bool
     } else {
         false
     }
-}
-
-// The table's length and the station are as they may be: the test behind number 1, but for the records.
-pub fn in_bounds(len: usize, s: Station) -> bool
-    ensures { λ r. ⌜ r ≡ inBounds len s ⌝ }
-{
-    let remote = s.remote;
-    let limit = s.limit;
-    let next = s.next;
-    let held = holding::remote_holds(s.last, remote);
-    ((1 <= len) & (len <= 64)) & (((1 <= limit) & (limit <= 15)) & !(next == 0) & held)
 }

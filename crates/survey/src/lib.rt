@@ -1,12 +1,10 @@
-// The walks over the records that a host lends. `survey`, from the last to the first, notes what a step asks of the whole table in
-// a few numbers, to which `with_four` adds the requests that the station holds; `column`, where it is needed, copies the open
-// identifiers out.
+// The walk over the records that a host lends. `survey`, from the last to the first, notes what a step asks of the whole table in
+// a few numbers, to which `with_four` adds the requests that the station holds.
 ghost use mathlib.Core.Path.{_≡_};
 ghost use Prim.Native.Nat.{_≤_, _<_};
 ghost use lib.ListN.{length, take};
 ghost use Rattle.call.specs.Record.{requestOf};
 ghost use Rattle.survey.specs.Survey.{has, withBit, slotOf, freeWith, dueWith, marksWith, clashWith, unseenOf, notedOf, surveyOf, withPending, withFour};
-ghost use Rattle.notes.specs.Notes.{columnOf};
 use call::Call;
 use remote::Pendings;
 use timed::Pending;
@@ -43,7 +41,7 @@ fn with_bit(mask: u64, k: u64) -> u64
     if has(mask, k) {
         return mask;
     }
-    mask + notes::bit(k as usize)
+    mask + bits::bit(k as usize)
 }
 
 // The request of a record.
@@ -176,20 +174,4 @@ pub fn with_four(v: Noted, p: Pendings) -> Noted
     let deactivation = with_pending(activation, p.deactivation);
     let interrogation = with_pending(deactivation, p.interrogation);
     with_pending(interrogation, p.check)
-}
-
-// The identifiers of the open requests among the first n records, copied out: each plus 1, and 0 where none is open.
-pub fn column(table: &[Call], n: usize) -> [u32; 64]
-    requires { ⌜ (n ≤ length (now table)) × (n ≤ 64) ⌝ }
-    ensures { λ r. ⌜ r ≡ columnOf n (now (table .entry)) ⌝ }
-{
-    let mut held = [0u32; 64];
-    let mut i = 0;
-    while i < n {
-        let c = table[i];
-        let id = notes::held_by(c);
-        held[i] = id;
-        i += 1;
-    }
-    held
 }

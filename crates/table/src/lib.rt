@@ -70,10 +70,10 @@ pub fn sound_table(calls: [Call; 64], len: usize, last: u64, p: Pendings) -> boo
         if !sound::sound_call(c, last) {
             return false;
         }
-        let id = notes::held_by(c);
+        let id = draw::held_by(c);
         held[i] = id;
         i += 1;
     }
-    let column = notes::joined(&held, p);
+    let column = draw::joined(&held, p);
     apart(&column)
 }

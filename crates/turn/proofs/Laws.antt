@@ -19,6 +19,7 @@ use Rattle.identifier.specs.Identifier.{after}
 use Rattle.call.specs.declared.Call.{Call}
 use Rattle.call.specs.Record.{isFree}
 use Rattle.call.specs.Act.{act}
+use Rattle.call.specs.Incoming.{actIncoming}
 use Rattle.remote.specs.Rules as rules
 use Rattle.remote.proofs.Roles.{step-any}
 use Rattle.station.specs.declared.Station.{Station}
@@ -26,12 +27,21 @@ use Rattle.station.specs.Table.{at, place, identifierFor, sound}
 use Rattle.station.specs.Refusals.{refusal, refusalOnSound}
 use Rattle.station.specs.Step.{Outcome, refused, nextAfter, stationAfter, farMoved, done, byNumber, step, stepOnSound}
 use Rattle.event.proofs.Groups.{opener, no-opener}
-use Rattle.turn.specs.declared.Seen.{Seen}
+use Rattle.sight.specs.declared.Seen.{Seen}
+use Rattle.sight.specs.Sight.{beyond}
+use Rattle.sight.proofs.Sorts.{kind-low, kind-high}
+use Rattle.numbers.specs.Numbers.{numberOf}
+use Rattle.numbers.proofs.Numbered.{namedRefusal, numbers, by-table, by-seen, numbers-early, numbers-ill, numbers-open, numbers-clock, numbers-named, numbers-far}
+use Rattle.outcome.specs.Outcome.{stationOn}
 use Rattle.turn.specs.declared.Turn.{Turn}
 use Rattle.turn.specs.declared.Turn.the-variants.{Refused, Far, Done}
-use Rattle.turn.specs.Turn.{seenIn, beyond, numberOf, turnOf, movedOf, decidedOf, stationOn, outcomeOf, Sees}
-use Rattle.turn.proofs.Sorts.{kind-low, kind-high, act-other}
-use Rattle.turn.proofs.Numbered.{namedRefusal, numbers, by-table, by-seen, numbers-early, numbers-ill, numbers-open, numbers-clock, numbers-named, numbers-far}
+use Rattle.turn.specs.Turn.{seenIn, turnOf, movedOf, decidedOf, outcomeOf, Sees}
+
+module _ (e : Event) where
+  -- only a divert reads the identifier
+  pub act-other : (c : Call) (i j : ℕ) → diverts e ≡ false → act c e i ≡ act c e j
+  unfolding act actIncoming
+  act-other c i j q = rw q
 
 -- a table tells what is seen of it
 pub sees-in : (s : Station) (calls : List Call) (e : Event) → Sees s calls e (seenIn s calls e)

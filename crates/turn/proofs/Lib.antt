@@ -1,4 +1,2 @@
-pub mod Sorts
-pub mod Numbered
 pub mod Turns
 pub mod Laws

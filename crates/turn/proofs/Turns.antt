@@ -16,12 +16,15 @@ use Rattle.call.specs.State.{wrongCall, basicForbids, stateForbids}
 use Rattle.remote.specs.Rules.{noneWaits}
 use Rattle.station.specs.declared.Station.{Station}
 use Rattle.station.specs.Refusals.{early, illMade, foreignAnswer, overLimit, pendingAlready}
-use Rattle.turn.specs.declared.Seen.{Seen}
+use Rattle.sight.specs.declared.Seen.{Seen}
+use Rattle.sight.specs.Sight.{beyond}
+use Rattle.sight.proofs.Sorts.{kind-low, kind-high}
+use Rattle.numbers.specs.Numbers.{numberOf}
+use Rattle.numbers.proofs.Numbered.{by-seen, numbers-early}
+use Rattle.deed.specs.Deed.{doable}
 use Rattle.turn.specs.declared.Turn.{Turn}
 use Rattle.turn.specs.declared.Turn.the-variants.{Refused, Far, Done}
-use Rattle.turn.specs.Turn.{beyond, numberOf, turnOf, doable}
-use Rattle.turn.proofs.Sorts.{kind-low, kind-high}
-use Rattle.turn.proofs.Numbered.{by-seen, numbers-early, numbers-ill}
+use Rattle.turn.specs.Turn.{turnOf}
 
 -- a test was passed where the number is 0
 passed : (b : Bool) (k n : ℕ) → (when b then k else n) ≡ 0 → (k ≡ 0 → ⊥) → (b ≡ false) × (n ≡ 0)
@@ -50,10 +53,6 @@ module _ (s : Station) (e : Event) (v : Seen) where
   pub turns-early : e .time < s .last → Refused 2 ≡ turnOf s e v
   unfolding turnOf
   turns-early h = rw (by-seen s e v ∙ numbers-early s e (beyond v) (v .call) (beyond v) h)
-
-  -- an event of no kind
-  pub number-ill : s .last ≤ e .time → wellMade e ≡ false → 3 ≡ numberOf s e v
-  number-ill h w = sym (by-seen s e v ∙ numbers-ill s e (beyond v) (v .call) (beyond v) h w)
 
   module _ (code : ℕ) (q : code ≡ numberOf s e v) where
     pub turns-refused : (code ≡ 0 → ⊥) → Refused code ≡ turnOf s e v

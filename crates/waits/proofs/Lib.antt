@@ -1,4 +1,3 @@
-pub mod Walk
 pub mod Laws
 pub mod Counted
 pub mod Kept

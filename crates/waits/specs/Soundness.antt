@@ -1,5 +1,5 @@
 -- Document 02, Six: "soundness the kept ones (the first cfnr, the others cfu or cfb)"; "each code is in range, each party .. is not 0, each unused field is 0"
-use Prim.Native.Nat.{ℕ, _+_, _*_}
+use Prim.Native.Nat.{ℕ}
 use mathlib.Core.Bool.{Bool, _&&_, _||_, not}
 use lib.Dec.{eqb, leb}
 use lib.ListN.{length, drop}
@@ -12,14 +12,6 @@ use Rattle.waits.specs.Waits.{behind}
 
 abbrev pub dli1Unused : Dli1 → Bool
 dli1Unused d = eqb (d .reason) 0 && eqb (d .option) 0 && eqb (d .number) 0
-
--- its three fields, which lie side by side in memory, as one number: 0 exactly where it is unused
-abbrev pub dli1Word : Dli1 → ℕ
-dli1Word d = d .reason + 256 * d .option + 65536 * d .number
-
--- two side by side: 0 exactly where both are unused
-abbrev pub pairWord : Dli1 → Dli1 → ℕ
-pairWord a b = a .reason + 256 * a .option + 65536 * a .number + 4294967296 * b .reason + 1099511627776 * b .option + 281474976710656 * b .number
 
 -- "the first cfnr"
 abbrev pub firstHolds : Dli1 → Bool

@@ -29,22 +29,22 @@ use denote.Triple.Clauses.{ensured, lasts}
 use denote.Triple.Walked.{says}
 use Rattle.call.specs.declared.Call.{Call}
 use Rattle.call.proofs.Call.Laws as S′
-use Rattle.decision.specs.declared.Input.{Input}
-use Rattle.decision.specs.declared.Decision.{Decision}
-use Rattle.decision.specs.declared.Reply.{Reply}
-use Rattle.decision.specs.declared.Change.{Change}
+use Rattle.pick.specs.declared.Input.{Input}
+use Rattle.change.specs.declared.Decision.{Decision}
+use Rattle.change.specs.declared.Reply.{Reply}
+use Rattle.change.specs.declared.Change.{Change}
 use Rattle.decision.specs.Decision.{decisionOn}
-use Rattle.decision.proofs.Input as I
-use Rattle.decision.proofs.Input.Laws as I′
-use Rattle.decision.proofs.Decision as D
-use Rattle.decision.proofs.Decision.Laws as D′
-use Rattle.decision.proofs.Reply as N
-use Rattle.decision.proofs.Reply.Laws as N′
+use Rattle.pick.proofs.Input as I
+use Rattle.pick.proofs.Input.Laws as I′
+use Rattle.change.proofs.Decision as D
+use Rattle.change.proofs.Decision.Laws as D′
+use Rattle.change.proofs.Reply as N
+use Rattle.change.proofs.Reply.Laws as N′
 use Rattle.lent.proofs.looked as looked
-use Rattle.decision.proofs.Change as K
-use Rattle.decision.proofs.Change.Laws as K′
-use Rattle.decision.proofs.change_of as change
-use Rattle.decision.proofs.reply_of as reply
+use Rattle.change.proofs.Change as K
+use Rattle.change.proofs.Change.Laws as K′
+use Rattle.change.proofs.change_of as change
+use Rattle.change.proofs.reply_of as reply
 use Rattle.slice.proofs.Row.{R, makes, is-lowered}
 use Rattle.slice.proofs.settle as settle
 

@@ -3,8 +3,8 @@ use mathlib.Core.Path.{_≡_}
 use mathlib.Core.List.{List}
 use Rattle.ground.proofs.Determined.{determined}
 use Rattle.call.specs.declared.Call.{Call}
-use Rattle.decision.specs.declared.Input.{Input}
-use Rattle.decision.specs.declared.Reply.{Reply}
+use Rattle.pick.specs.declared.Input.{Input}
+use Rattle.change.specs.declared.Reply.{Reply}
 use Rattle.whipsail.specs.Lent.{replyOf, tableAfter}
 
 module _ (table : List Call) (input : Input) where

@@ -7,8 +7,8 @@ use lib.ListN.{length}
 use Rattle.call.specs.declared.Call.{Call}
 use Rattle.station.specs.Step.{Outcome}
 use Rattle.slice.specs.Table.{settledAt}
-use Rattle.decision.specs.declared.Input.{Input}
-use Rattle.decision.specs.declared.Decision.{Decision}
+use Rattle.pick.specs.declared.Input.{Input}
+use Rattle.change.specs.declared.Decision.{Decision}
 use Rattle.decision.specs.Decision.{decisionOn, outcomeBy}
 use Rattle.decision.proofs.Laws.{decision-within, decision-steps}
 use Rattle.whipsail.specs.Lent.{outcome, replyOf, tableAfter}

@@ -2,8 +2,8 @@
 use mathlib.Core.List.{List}
 use Rattle.call.specs.declared.Call.{Call}
 use Rattle.station.specs.Step.{Outcome, step}
-use Rattle.decision.specs.declared.Input.{Input}
-use Rattle.decision.specs.declared.Reply.{Reply}
+use Rattle.pick.specs.declared.Input.{Input}
+use Rattle.change.specs.declared.Reply.{Reply}
 
 abbrev pub outcome : List Call → Input → Outcome
 outcome table input = step (input .station) table (input .event)

@@ -34,7 +34,7 @@ fn the_archives_export_what_the_headers_declare() {
     assert_eq!(names.len(), 8, "{names:?}");
     for archive in ARCHIVES {
         let (objects, exported) = exports(archive);
-        let crates = ["whipsail.o/", "whipsail_runs.o/", "whipsail_layout.o/"];
+        let crates = ["whipsail.o/", "whipsail_runs.o/", "whipsail_aids.o/", "whipsail_layout.o/"];
         assert_eq!(objects, crates, "{archive}");
         assert_eq!(exported, names, "{archive}");
     }

@@ -122,7 +122,7 @@ fn the_header_has_the_structs_of_the_crates() {
 }
 
 /// The crates of which the archive has a module each.
-const MODULES: [&str; 2] = ["whipsail", "whipsail_runs"];
+const MODULES: [&str; 3] = ["whipsail", "whipsail_runs", "whipsail_aids"];
 
 /// The name and the text of each function of a crate's module.
 fn module(name: &str) -> BTreeMap<String, String> {
@@ -198,21 +198,21 @@ fn touched(body: &str) -> Vec<(usize, Places)> {
 /// structs have none: of those some function touches every field, perhaps in
 /// parts, and nothing across two fields.
 const PLACES: [(&str, &str); 15] = [
-    ("event", "whipsail::no_event"),
-    ("dli1", "waits::no_waits"),
-    ("waits", "waits::no_waits"),
-    ("history", "call::free_call"),
-    ("call", "call::free_call"),
+    ("event", "whipsail_aids::no_event"),
+    ("dli1", "queue::no_waits"),
+    ("waits", "queue::no_waits"),
+    ("history", "blank::free_call"),
+    ("call", "blank::free_call"),
     ("pending", "timed::idle"),
     ("pendings", "remote::fresh"),
     ("kept", "remote::fresh"),
     ("remote", "remote::fresh"),
-    ("station", "station::fresh_short"),
-    ("message", "call::no_message"),
-    ("answer", "station::empty_answer"),
-    ("made", "station::fresh"),
-    ("read", "whipsail::no_event"),
-    ("rehearsed", "rehearsal::end_at"),
+    ("station", "fresh::fresh_short"),
+    ("message", "blank::no_message"),
+    ("answer", "fresh::empty_answer"),
+    ("made", "fresh::fresh"),
+    ("read", "whipsail_aids::no_event"),
+    ("rehearsed", "offers::end_at"),
 ];
 
 /// Each field is touched, and nothing across two.
@@ -250,12 +250,12 @@ fn the_modules_have_the_fields_of_the_header() {
 /// The functions that each module exports, with the structs that they take and
 /// hand back by value.
 const ENTRIES: [(&str, &str, &[&str], &str); 7] = [
-    ("whipsail", "whipsail_fresh", &[], "made"),
-    ("whipsail", "whipsail_fresh_short", &[], "station"),
+    ("whipsail_aids", "whipsail_fresh", &[], "made"),
+    ("whipsail_aids", "whipsail_fresh_short", &[], "station"),
     ("whipsail", "whipsail_lent_step", &["input"], "told"),
-    ("whipsail", "whipsail_event_at", &[], "read"),
+    ("whipsail_aids", "whipsail_event_at", &[], "read"),
     ("whipsail", "whipsail_well_made", &["event"], ""),
-    ("whipsail", "whipsail_rehearse", &[], "rehearsed"),
+    ("whipsail_aids", "whipsail_rehearse", &[], "rehearsed"),
     ("whipsail_runs", "whipsail_run", &["board"], "ran"),
 ];
 

@@ -48,30 +48,31 @@ use Rattle.survey.proofs.Asked as Q
 use Rattle.survey.proofs.Asked.Laws as Q′
 use Rattle.survey.proofs.Noted as N
 use Rattle.survey.proofs.Noted.Laws as N′
-use Rattle.decision.specs.declared.Input.{Input}
-use Rattle.decision.specs.declared.Decision.{Decision}
-use Rattle.decision.specs.declared.Pick.{Pick}
-use Rattle.decision.specs.Decision.{askedOf, placeSeen, pickedOf, decisionBy, decisionOn}
-use Rattle.decision.proofs.Input as I
-use Rattle.decision.proofs.Input.Laws as I′
-use Rattle.decision.proofs.Decision as D
-use Rattle.decision.proofs.Decision.Laws as D′
-use Rattle.decision.proofs.Pick as P
-use Rattle.decision.proofs.Pick.Laws as P′
+use Rattle.pick.specs.declared.Input.{Input}
+use Rattle.change.specs.declared.Decision.{Decision}
+use Rattle.pick.specs.declared.Pick.{Pick}
+use Rattle.pick.specs.Pick.{askedOf, placeSeen, pickedOf}
+use Rattle.decision.specs.Decision.{decisionBy, decisionOn}
+use Rattle.pick.proofs.Input as I
+use Rattle.pick.proofs.Input.Laws as I′
+use Rattle.change.proofs.Decision as D
+use Rattle.change.proofs.Decision.Laws as D′
+use Rattle.pick.proofs.Pick as P
+use Rattle.pick.proofs.Pick.Laws as P′
 use Rattle.lent.proofs.Laws.{looked-is}
 use Rattle.lent.proofs.Callees.{short, slice-at, IsI, IsQ, IsN, IsD, spelledQ, spelledN, spelledP, spelledD, spelled-call, Fit, Ask, Survey, Place, Read, Picks, Decide, fit-of, asked-of, survey-of, place-of, read-of, picked-of, decided-of, to-fit, to-asked, to-survey, to-place, to-read, to-picked, to-decided, goes-fit, goes-asked, goes-survey, goes-place, goes-read, goes-picked, goes-decided}
 use Rattle.slice.proofs.fit as fit
 use Rattle.slice.proofs.fit.Symbol as fit-def
 use Rattle.slice.proofs.fit.Met as fit-thm
-use Rattle.decision.proofs.asked as asked
-use Rattle.decision.proofs.asked.Symbol as asked-def
-use Rattle.decision.proofs.asked.Met as asked-thm
+use Rattle.pick.proofs.asked as asked
+use Rattle.pick.proofs.asked.Symbol as asked-def
+use Rattle.pick.proofs.asked.Met as asked-thm
 use Rattle.survey.proofs.survey as survey
 use Rattle.survey.proofs.survey.Symbol as survey-def
 use Rattle.survey.proofs.survey.Met as survey-thm
-use Rattle.decision.proofs.place_seen as place
-use Rattle.decision.proofs.place_seen.Symbol as place-def
-use Rattle.decision.proofs.place_seen.Met as place-thm
+use Rattle.pick.proofs.place_seen as place
+use Rattle.pick.proofs.place_seen.Symbol as place-def
+use Rattle.pick.proofs.place_seen.Met as place-thm
 use Rattle.slice.proofs.record_at as read
 use Rattle.slice.proofs.record_at.Symbol as read-def
 use Rattle.slice.proofs.record_at.Met as read-thm
@@ -260,9 +261,9 @@ looked-spec 𝓤 H 𝓜 𝓖 𝓡 =
     (tables 𝓤 H 𝓜 𝓡 code.env .C) (tables 𝓤 H 𝓜 𝓡 code.env .Λ) #lent·looked code.function (code.unfolded 𝓤 H 𝓜 𝓡)
     (looked-meets 𝓤 H (𝓖 .A) (givenOf 𝓤 H 𝓜 𝓖) (𝓜 .mem) (𝓡 .run) (tablesOf 𝓤 H 𝓜 (tables 𝓤 H 𝓜 𝓡 code.env))
     (cited 𝓤 H (Fit 𝓤 H (𝓖 .A) (𝓜 .mem) (𝓡 .run)) 𝓜 𝓡 code.env fit-def.name fit-def.routine code.calls-slice·fit (fit-thm.met 𝓤 H 𝓜 𝓖 𝓡))
-    (cited 𝓤 H (Ask 𝓤 H (𝓖 .A) (𝓜 .mem) (𝓡 .run)) 𝓜 𝓡 code.env asked-def.name asked-def.routine code.calls-decision·asked (asked-thm.met 𝓤 H 𝓜 𝓖 𝓡))
+    (cited 𝓤 H (Ask 𝓤 H (𝓖 .A) (𝓜 .mem) (𝓡 .run)) 𝓜 𝓡 code.env asked-def.name asked-def.routine code.calls-pick·asked (asked-thm.met 𝓤 H 𝓜 𝓖 𝓡))
     (cited 𝓤 H (Survey 𝓤 H (𝓖 .A) (𝓜 .mem) (𝓡 .run)) 𝓜 𝓡 code.env survey-def.name survey-def.routine code.calls-survey·survey (survey-thm.met 𝓤 H 𝓜 𝓖 𝓡))
-    (cited 𝓤 H (Place 𝓤 H (𝓖 .A) (𝓜 .mem) (𝓡 .run)) 𝓜 𝓡 code.env place-def.name place-def.routine code.calls-decision·place-seen (place-thm.met 𝓤 H 𝓜 𝓖 𝓡))
+    (cited 𝓤 H (Place 𝓤 H (𝓖 .A) (𝓜 .mem) (𝓡 .run)) 𝓜 𝓡 code.env place-def.name place-def.routine code.calls-pick·place-seen (place-thm.met 𝓤 H 𝓜 𝓖 𝓡))
     (cited 𝓤 H (Read 𝓤 H (𝓖 .A) (𝓜 .mem) (𝓡 .run)) 𝓜 𝓡 code.env read-def.name read-def.routine code.calls-slice·record-at (read-thm.met 𝓤 H 𝓜 𝓖 𝓡))
     (cited 𝓤 H (Picks 𝓤 H (𝓖 .A) (𝓜 .mem) (𝓡 .run)) 𝓜 𝓡 code.env picked-def.name picked-def.routine code.calls-lent·picked (picked-thm.met 𝓤 H 𝓜 𝓖 𝓡))
     (cited 𝓤 H (Decide 𝓤 H (𝓖 .A) (𝓜 .mem) (𝓡 .run)) 𝓜 𝓡 code.env decided-def.name decided-def.routine code.calls-decision·decided-on (decided-thm.met 𝓤 H 𝓜 𝓖 𝓡)))

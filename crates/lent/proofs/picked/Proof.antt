@@ -41,31 +41,31 @@ use denote.Signature.{plain}
 use Rattle.call.specs.declared.Call.{Call}
 use Rattle.slice.proofs.Row.{R, shared}
 use Rattle.survey.specs.declared.Noted.{Noted}
-use Rattle.notes.specs.Notes.{columnOf}
-use Rattle.survey.proofs.Cells.{AU, cells, atyped-at}
+use Rattle.draw.specs.Column.{columnOf}
+use Rattle.copy.proofs.Cells.{AU, cells, atyped-at}
 use Rattle.survey.proofs.Noted as N
 use Rattle.survey.proofs.Noted.Laws as N′
-use Rattle.decision.specs.declared.Input.{Input}
-use Rattle.decision.specs.declared.Pick.{Pick}
-use Rattle.decision.specs.Decision.{wantsColumn, fromColumn, asItStands, pickedOf}
-use Rattle.decision.proofs.Input as I
-use Rattle.decision.proofs.Input.Laws as I′
-use Rattle.decision.proofs.Pick as P
-use Rattle.decision.proofs.Pick.Laws as P′
+use Rattle.pick.specs.declared.Input.{Input}
+use Rattle.pick.specs.declared.Pick.{Pick}
+use Rattle.pick.specs.Pick.{wantsColumn, fromColumn, asItStands, pickedOf}
+use Rattle.pick.proofs.Input as I
+use Rattle.pick.proofs.Input.Laws as I′
+use Rattle.pick.proofs.Pick as P
+use Rattle.pick.proofs.Pick.Laws as P′
 use Rattle.lent.proofs.Laws.{picked-wanted, picked-else}
 use Rattle.lent.proofs.Callees.{slice-at, IsI, IsN, IsP, spelledP, Wants, Column, FromColumn, Stands, wants-of, column-of, from-column-of, stands-of, to-wants, to-column, to-from-column, to-stands, goes-wants, goes-column, goes-from-column, goes-stands}
-use Rattle.decision.proofs.wants_column as wants
-use Rattle.decision.proofs.wants_column.Symbol as wants-def
-use Rattle.decision.proofs.wants_column.Met as wants-thm
-use Rattle.survey.proofs.column as column
-use Rattle.survey.proofs.column.Symbol as column-def
-use Rattle.survey.proofs.column.Met as column-thm
-use Rattle.decision.proofs.from_column as from-column
-use Rattle.decision.proofs.from_column.Symbol as from-column-def
-use Rattle.decision.proofs.from_column.Met as from-column-thm
-use Rattle.decision.proofs.as_it_stands as stands
-use Rattle.decision.proofs.as_it_stands.Symbol as stands-def
-use Rattle.decision.proofs.as_it_stands.Met as stands-thm
+use Rattle.pick.proofs.wants_column as wants
+use Rattle.pick.proofs.wants_column.Symbol as wants-def
+use Rattle.pick.proofs.wants_column.Met as wants-thm
+use Rattle.copy.proofs.column as column
+use Rattle.copy.proofs.column.Symbol as column-def
+use Rattle.copy.proofs.column.Met as column-thm
+use Rattle.pick.proofs.from_column as from-column
+use Rattle.pick.proofs.from_column.Symbol as from-column-def
+use Rattle.pick.proofs.from_column.Met as from-column-thm
+use Rattle.pick.proofs.as_it_stands as stands
+use Rattle.pick.proofs.as_it_stands.Symbol as stands-def
+use Rattle.pick.proofs.as_it_stands.Met as stands-thm
 use Rattle.lent.proofs.picked.Key.{name as #lent·picked}
 use Rattle.lent.proofs.picked as picked′
 use Rattle.lent.proofs.picked.Statement as stated
@@ -194,7 +194,7 @@ picked-spec 𝓤 H 𝓜 𝓖 𝓡 =
     entered 𝓤 H (tripleOf 𝓤 H (𝓖 .A) picked′.signature (picked′.spec 𝓤 H (𝓖 .A) (𝓜 .mem) (𝓡 .run)))
     (tables 𝓤 H 𝓜 𝓡 code.env .C) (tables 𝓤 H 𝓜 𝓡 code.env .Λ) #lent·picked code.function (code.unfolded 𝓤 H 𝓜 𝓡)
     (picked-meets 𝓤 H (𝓖 .A) (givenOf 𝓤 H 𝓜 𝓖) (𝓜 .mem) (𝓡 .run) (tablesOf 𝓤 H 𝓜 (tables 𝓤 H 𝓜 𝓡 code.env))
-    (cited 𝓤 H (Wants 𝓤 H (𝓖 .A) (𝓜 .mem) (𝓡 .run)) 𝓜 𝓡 code.env wants-def.name wants-def.routine code.calls-decision·wants-column (wants-thm.met 𝓤 H 𝓜 𝓖 𝓡))
-    (cited 𝓤 H (Column 𝓤 H (𝓖 .A) (𝓜 .mem) (𝓡 .run)) 𝓜 𝓡 code.env column-def.name column-def.routine code.calls-survey·column (column-thm.met 𝓤 H 𝓜 𝓖 𝓡))
-    (cited 𝓤 H (FromColumn 𝓤 H (𝓖 .A) (𝓜 .mem) (𝓡 .run)) 𝓜 𝓡 code.env from-column-def.name from-column-def.routine code.calls-decision·from-column (from-column-thm.met 𝓤 H 𝓜 𝓖 𝓡))
-    (cited 𝓤 H (Stands 𝓤 H (𝓖 .A) (𝓜 .mem) (𝓡 .run)) 𝓜 𝓡 code.env stands-def.name stands-def.routine code.calls-decision·as-it-stands (stands-thm.met 𝓤 H 𝓜 𝓖 𝓡)))
+    (cited 𝓤 H (Wants 𝓤 H (𝓖 .A) (𝓜 .mem) (𝓡 .run)) 𝓜 𝓡 code.env wants-def.name wants-def.routine code.calls-pick·wants-column (wants-thm.met 𝓤 H 𝓜 𝓖 𝓡))
+    (cited 𝓤 H (Column 𝓤 H (𝓖 .A) (𝓜 .mem) (𝓡 .run)) 𝓜 𝓡 code.env column-def.name column-def.routine code.calls-copy·column (column-thm.met 𝓤 H 𝓜 𝓖 𝓡))
+    (cited 𝓤 H (FromColumn 𝓤 H (𝓖 .A) (𝓜 .mem) (𝓡 .run)) 𝓜 𝓡 code.env from-column-def.name from-column-def.routine code.calls-pick·from-column (from-column-thm.met 𝓤 H 𝓜 𝓖 𝓡))
+    (cited 𝓤 H (Stands 𝓤 H (𝓖 .A) (𝓜 .mem) (𝓡 .run)) 𝓜 𝓡 code.env stands-def.name stands-def.routine code.calls-pick·as-it-stands (stands-thm.met 𝓤 H 𝓜 𝓖 𝓡)))

@@ -5,11 +5,11 @@ use borrow.Author.Needs.{needs}
 use lib.ListN.{length, getD, length-set, getD-replicate}
 use Rattle.call.specs.Record.{freeCall}
 use Rattle.call.proofs.Read.{unread}
-use Rattle.notes.specs.Mask.{over}
-use Rattle.notes.specs.Notes.{frees, soonestOf}
-use Rattle.notes.proofs.Mask.{over-next, over-at, over-length}
-use Rattle.notes.proofs.Kept.{Kept, notes, kept-next, kept-may, kept-none}
-use Rattle.notes.proofs.Bound.{soonest-stored, summed-kept}
+use Rattle.draw.specs.Column.{over, frees}
+use Rattle.expiry.specs.Expiry.{soonestOf}
+use Rattle.draw.proofs.Column.{over-next, over-at, over-length}
+use Rattle.notes.proofs.Kept.{Kept, notes, kept-next, kept-may, kept-none, summed-kept}
+use Rattle.expiry.proofs.Bound.{soonest-stored}
 use Rattle.notes.proofs.summed.Statement.{statement}
 use Rattle.notes.proofs.summed.Tie as tie
 

@@ -1,6 +1,6 @@
 use borrow.Author.Needs.{needs}
 use native.Mathlib.Omega.{arith}
-use Rattle.printout.proofs.Texts.{written-within}
+use Rattle.digits.proofs.Texts.{written-within}
 use Rattle.panelrun.proofs.Played.{counts}
 use Rattle.panelrun.proofs.print_cut.Statement.{statement}
 use Rattle.panelrun.proofs.print_cut.Tie as tie

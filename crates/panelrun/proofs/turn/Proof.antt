@@ -1,7 +1,7 @@
 use borrow.Author.Needs.{needs}
 use mathlib.Core.Path.{_∙_}
 use native.Mathlib.Omega.{arith}
-use Rattle.printout.proofs.Texts.{written-within}
+use Rattle.digits.proofs.Texts.{written-within}
 use Rattle.panelrun.proofs.Played.{counts, used-within, kept}
 use Rattle.panelrun.proofs.turn.Statement.{statement}
 use Rattle.panelrun.proofs.turn.Tie as tie

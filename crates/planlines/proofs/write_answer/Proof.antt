@@ -1,6 +1,6 @@
 use native.Mathlib.Omega.{arith}
 use borrow.Author.Needs.{needs}
-use Rattle.printout.proofs.Digits.{decimal-within}
+use Rattle.digits.proofs.Digits.{decimal-within}
 use Rattle.planlines.proofs.Words.{answer-written, refusal-written}
 use Rattle.planlines.proofs.write_answer.Statement.{statement}
 use Rattle.planlines.proofs.write_answer.Tie as tie

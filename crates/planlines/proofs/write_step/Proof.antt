@@ -1,6 +1,6 @@
 use native.Mathlib.Omega.{arith}
 use borrow.Author.Needs.{needs}
-use Rattle.printout.proofs.Digits.{decimal-within}
+use Rattle.digits.proofs.Digits.{decimal-within}
 use Rattle.planlines.proofs.Words.{step-written}
 use Rattle.planlines.proofs.write_step.Statement.{statement}
 use Rattle.planlines.proofs.write_step.Tie as tie

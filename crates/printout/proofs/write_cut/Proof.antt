@@ -2,8 +2,8 @@ use native.Mathlib.Omega.{arith}
 use borrow.Author.Needs.{needs}
 use mathlib.Core.Path.{_∙_}
 use lib.ListN.{length-set}
-use Rattle.printout.proofs.Digits.{decimal-within}
-use Rattle.printout.proofs.Texts.{stored-four, in-three}
+use Rattle.digits.proofs.Digits.{decimal-within}
+use Rattle.digits.proofs.Texts.{stored-four, in-three}
 use Rattle.printout.proofs.write_cut.Statement.{statement}
 use Rattle.printout.proofs.write_cut.Tie as tie
 

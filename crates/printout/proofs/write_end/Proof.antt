@@ -1,7 +1,7 @@
 use native.Mathlib.Omega.{arith}
 use borrow.Author.Needs.{needs}
-use Rattle.printout.proofs.Digits.{column-within}
-use Rattle.printout.proofs.Texts.{and-then}
+use Rattle.printout.proofs.Pieces.{column-within}
+use Rattle.digits.proofs.Texts.{and-then}
 use Rattle.printout.proofs.write_end.Statement.{statement}
 use Rattle.printout.proofs.write_end.Tie as tie
 

@@ -1,6 +1,6 @@
 use borrow.Author.Needs.{needs}
 use native.Mathlib.Omega.{arith}
-use Rattle.printout.proofs.Digits.{decimal-within}
+use Rattle.digits.proofs.Digits.{decimal-within}
 use Rattle.printout.proofs.Pieces.{legged, unlettered}
 use Rattle.printout.proofs.write_leg.Statement.{statement}
 use Rattle.printout.proofs.write_leg.Tie as tie

@@ -1,6 +1,6 @@
 use borrow.Author.Needs.{needs}
 use native.Mathlib.Omega.{arith}
-use Rattle.printout.proofs.Texts.{in-three}
+use Rattle.digits.proofs.Texts.{in-three}
 use Rattle.printout.proofs.Pieces.{line-parts}
 use Rattle.printout.proofs.write_line.Statement.{statement}
 use Rattle.printout.proofs.write_line.Tie as tie

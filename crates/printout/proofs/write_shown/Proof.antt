@@ -1,7 +1,7 @@
 use borrow.Author.Needs.{needs}
 use native.Mathlib.Omega.{arith}
-use Rattle.printout.proofs.Digits.{column-within}
-use Rattle.printout.proofs.Texts.{in-three}
+use Rattle.printout.proofs.Pieces.{column-within}
+use Rattle.digits.proofs.Texts.{in-three}
 use Rattle.printout.proofs.write_shown.Statement.{statement}
 use Rattle.printout.proofs.write_shown.Tie as tie
 

@@ -1,7 +1,7 @@
 use borrow.Author.Needs.{needs}
 use native.Mathlib.Omega.{arith}
-use Rattle.printout.proofs.Digits.{decimal-within}
-use Rattle.printout.proofs.Texts.{in-three}
+use Rattle.digits.proofs.Digits.{decimal-within}
+use Rattle.digits.proofs.Texts.{in-three}
 use Rattle.printout.proofs.write_start.Statement.{statement}
 use Rattle.printout.proofs.write_start.Tie as tie
 

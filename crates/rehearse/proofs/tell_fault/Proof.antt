@@ -2,7 +2,7 @@ use mathlib.Core.Path.{sym}
 use native.Mathlib.Omega.{arith}
 use borrow.Author.Needs.{needs}
 use lib.Seq.{length-take-le}
-use Rattle.printout.proofs.Texts.{written-within}
+use Rattle.digits.proofs.Texts.{written-within}
 use Rattle.rehearse.proofs.tell_fault.Statement.{statement}
 use Rattle.rehearse.proofs.tell_fault.Tie as tie
 

@@ -45,9 +45,9 @@ use denote.Triple.Table.{entered, cited}
 use denote.Triple.Walked.{says, needs, Stays, stay-none-slice, stay-none, walkOf, Walks, ends-at, walked, goes-none-slice, goes-none, walk-meets}
 use Rattle.call.specs.declared.Call.{Call}
 use Rattle.call.specs.Record.{freeCall}
-use Rattle.call.proofs.free_call as free
-use Rattle.call.proofs.free_call.Symbol as free-def
-use Rattle.call.proofs.free_call.Met as free-thm
+use Rattle.blank.proofs.free_call as free
+use Rattle.blank.proofs.free_call.Symbol as free-def
+use Rattle.blank.proofs.free_call.Met as free-thm
 use Rattle.station.specs.Table.{at as record-of}
 use Rattle.slice.proofs.Row.{R, cell, bytes, shared, vals, low, tells, makes, typed, typed-at, copies}
 use Rattle.slice.proofs.Records.{record-in, record-past}
@@ -57,7 +57,7 @@ use Rattle.slice.proofs.record_at.Statement as stated
 use Rattle.slice.proofs.record_at.Code as code
 use Rattle.slice.proofs.record_at.Code.Mir as mir
 
--- ---- what is cited of `call::free_call`
+-- ---- what is cited of `blank::free_call`
 is-free : (c : Call) (v : Val) → c ≡ freeCall → Is R c (v ∷ []) → Is R freeCall (vals freeCall)
 is-free c v e g = subst (λ (d : Call). Is R d (vals d)) e (subst (Is R c) (tells c (v ∷ []) g) g)
 
@@ -178,4 +178,4 @@ record-at-spec 𝓤 H 𝓜 𝓖 𝓡 =
     entered 𝓤 H (tripleOf 𝓤 H (𝓖 .A) at′.signature (at′.spec 𝓤 H (𝓖 .A) (𝓜 .mem) (𝓡 .run)))
     (tables 𝓤 H 𝓜 𝓡 code.env .C) (tables 𝓤 H 𝓜 𝓡 code.env .Λ) #lent·record-at code.function (code.unfolded 𝓤 H 𝓜 𝓡)
     (at-meets 𝓤 H (𝓖 .A) (givenOf 𝓤 H 𝓜 𝓖) (𝓜 .mem) (𝓡 .run) (tablesOf 𝓤 H 𝓜 (tables 𝓤 H 𝓜 𝓡 code.env))
-    (cited 𝓤 H (Free 𝓤 H (𝓖 .A) (𝓜 .mem) (𝓡 .run)) 𝓜 𝓡 code.env free-def.name free-def.routine code.calls-call·free-call (free-thm.met 𝓤 H 𝓜 𝓖 𝓡)))
+    (cited 𝓤 H (Free 𝓤 H (𝓖 .A) (𝓜 .mem) (𝓡 .run)) 𝓜 𝓡 code.env free-def.name free-def.routine code.calls-blank·free-call (free-thm.met 𝓤 H 𝓜 𝓖 𝓡)))

@@ -1,5 +1,6 @@
 use borrow.Author.Needs.{needs}
-use Rattle.sound.proofs.Zeros.{and-assoc, codes-zero, numbers-zero}
+use Rattle.ground.proofs.Bools.{and-assoc}
+use Rattle.sound.proofs.Zeros.{codes-zero, numbers-zero}
 use Rattle.sound.proofs.incoming_unused.Statement.{statement}
 use Rattle.sound.proofs.incoming_unused.Tie as tie
 

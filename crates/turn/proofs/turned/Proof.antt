@@ -2,7 +2,8 @@
 use native.Mathlib.Omega.{arith}
 use borrow.Author.Needs.{needs}
 use Rattle.ground.proofs.Bools.{denied, upheld}
-use Rattle.turn.proofs.Turns.{turns-early, number-ill, turns-refused, turns-far, turns-there}
+use Rattle.numbers.proofs.Numbered.{number-ill}
+use Rattle.turn.proofs.Turns.{turns-early, turns-refused, turns-far, turns-there}
 use Rattle.turn.proofs.turned.Statement.{statement}
 use Rattle.turn.proofs.turned.Tie as tie
 

@@ -42,17 +42,17 @@ use denote.Exit.{yes}
 use denote.Signature.{plain}
 use Rattle.call.specs.declared.Call.{Call}
 use Rattle.slice.specs.Table.{settledAt}
-use Rattle.decision.specs.declared.Input.{Input}
-use Rattle.decision.specs.declared.Decision.{Decision}
-use Rattle.decision.specs.declared.Reply.{Reply}
-use Rattle.decision.specs.declared.Change.{Change}
+use Rattle.pick.specs.declared.Input.{Input}
+use Rattle.change.specs.declared.Decision.{Decision}
+use Rattle.change.specs.declared.Reply.{Reply}
+use Rattle.change.specs.declared.Change.{Change}
 use Rattle.whipsail.specs.Lent.{replyOf, tableAfter}
-use Rattle.decision.proofs.Input as I
-use Rattle.decision.proofs.Input.Laws as I′
-use Rattle.decision.proofs.Decision as D
-use Rattle.decision.proofs.Decision.Laws as D′
-use Rattle.decision.proofs.Reply as N
-use Rattle.decision.proofs.Reply.Laws as N′
+use Rattle.pick.proofs.Input as I
+use Rattle.pick.proofs.Input.Laws as I′
+use Rattle.change.proofs.Decision as D
+use Rattle.change.proofs.Decision.Laws as D′
+use Rattle.change.proofs.Reply as N
+use Rattle.change.proofs.Reply.Laws as N′
 use Rattle.slice.proofs.Row.{R, slice}
 use Rattle.slice.proofs.Again.{LentAgain, lends-again, comes-back}
 use Rattle.slice.proofs.Shared.{LentShared, lends-shared, shared-back}
@@ -61,14 +61,14 @@ use Rattle.whipsail.proofs.Callees.{is-decision, is-reply, is-place, is
 use Rattle.lent.proofs.looked as looked
 use Rattle.lent.proofs.looked.Symbol as looked-def
 use Rattle.lent.proofs.looked.Met as looked-thm
-use Rattle.decision.proofs.Change as K
-use Rattle.decision.proofs.Change.Laws as K′
-use Rattle.decision.proofs.change_of as change
-use Rattle.decision.proofs.change_of.Symbol as change-def
-use Rattle.decision.proofs.change_of.Met as change-thm
-use Rattle.decision.proofs.reply_of as reply
-use Rattle.decision.proofs.reply_of.Symbol as reply-def
-use Rattle.decision.proofs.reply_of.Met as reply-thm
+use Rattle.change.proofs.Change as K
+use Rattle.change.proofs.Change.Laws as K′
+use Rattle.change.proofs.change_of as change
+use Rattle.change.proofs.change_of.Symbol as change-def
+use Rattle.change.proofs.change_of.Met as change-thm
+use Rattle.change.proofs.reply_of as reply
+use Rattle.change.proofs.reply_of.Symbol as reply-def
+use Rattle.change.proofs.reply_of.Met as reply-thm
 use Rattle.slice.proofs.settle as settle
 use Rattle.slice.proofs.settle.Symbol as settle-def
 use Rattle.slice.proofs.settle.Met as settle-thm
@@ -248,6 +248,6 @@ whipsail-lent-step-spec 𝓤 H 𝓜 𝓖 𝓡 =
     (tables 𝓤 H 𝓜 𝓡 code.env .C) (tables 𝓤 H 𝓜 𝓡 code.env .Λ) #whipsail·whipsail-lent-step code.function (code.unfolded 𝓤 H 𝓜 𝓡)
     (step-meets 𝓤 H (𝓖 .A) (givenOf 𝓤 H 𝓜 𝓖) (𝓜 .mem) (𝓡 .run) (tablesOf 𝓤 H 𝓜 (tables 𝓤 H 𝓜 𝓡 code.env))
     (cited 𝓤 H (Look 𝓤 H (𝓖 .A) (𝓜 .mem) (𝓡 .run)) 𝓜 𝓡 code.env looked-def.name looked-def.routine code.calls-lent·looked (looked-thm.met 𝓤 H 𝓜 𝓖 𝓡))
-    (cited 𝓤 H (Changes 𝓤 H (𝓖 .A) (𝓜 .mem) (𝓡 .run)) 𝓜 𝓡 code.env change-def.name change-def.routine code.calls-decision·change-of (change-thm.met 𝓤 H 𝓜 𝓖 𝓡))
+    (cited 𝓤 H (Changes 𝓤 H (𝓖 .A) (𝓜 .mem) (𝓡 .run)) 𝓜 𝓡 code.env change-def.name change-def.routine code.calls-change·change-of (change-thm.met 𝓤 H 𝓜 𝓖 𝓡))
     (cited 𝓤 H (Settle 𝓤 H (𝓖 .A) (𝓜 .mem) (𝓡 .run)) 𝓜 𝓡 code.env settle-def.name settle-def.routine code.calls-slice·settle (settle-thm.met 𝓤 H 𝓜 𝓖 𝓡))
-    (cited 𝓤 H (Replies 𝓤 H (𝓖 .A) (𝓜 .mem) (𝓡 .run)) 𝓜 𝓡 code.env reply-def.name reply-def.routine code.calls-decision·reply-of (reply-thm.met 𝓤 H 𝓜 𝓖 𝓡)))
+    (cited 𝓤 H (Replies 𝓤 H (𝓖 .A) (𝓜 .mem) (𝓡 .run)) 𝓜 𝓡 code.env reply-def.name reply-def.routine code.calls-change·reply-of (reply-thm.met 𝓤 H 𝓜 𝓖 𝓡)))

@@ -1,7 +1,7 @@
 use borrow.Author.Needs.{needs}
 use mathlib.Core.Path.{sym, _∙_}
 use native.Mathlib.Omega.{arith}
-use Rattle.printout.proofs.Texts.{written-within}
+use Rattle.digits.proofs.Texts.{written-within}
 use Rattle.edges.proofs.show.one_line.Statement.{statement}
 use Rattle.edges.proofs.show.one_line.Tie as tie
 

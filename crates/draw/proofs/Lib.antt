@@ -1,0 +1,3 @@
+pub mod Column
+pub mod Held
+pub mod Four

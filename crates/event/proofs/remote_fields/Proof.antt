@@ -1,7 +1,0 @@
-use Rattle.event.specs.Remote.{remoteFields}
-use Rattle.event.proofs.remote_fields.Statement.{statement}
-use Rattle.event.proofs.remote_fields.Tie as tie
-
-pub remote-fields-spec : {M : Type 1} → statement M
-unfolding remoteFields
-remote-fields-spec = tie.close (tie.spec (λ c κs. tt) (λ c κs. tt) (λ c κs. tt) (λ c κs. tt) (λ c κs. tt) (λ c. cc))

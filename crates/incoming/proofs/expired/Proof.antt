@@ -1,6 +1,0 @@
-use borrow.Author.Needs.{needs}
-use Rattle.incoming.proofs.expired.Statement.{statement}
-use Rattle.incoming.proofs.expired.Tie as tie
-
-pub expired-spec : {M : Type 1} → statement M
-expired-spec = tie.close (tie.spec (λ c. search needs) (λ c κs. tt) (λ c κs. tt) (λ c. rw (c .no-messages .ensures, c .before .idle .ensures)))

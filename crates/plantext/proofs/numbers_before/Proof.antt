@@ -1,6 +1,0 @@
-use Rattle.ground.proofs.Ways.{ways}
-use Rattle.plantext.proofs.numbers_before.Statement.{statement}
-use Rattle.plantext.proofs.numbers_before.Tie as tie
-
-pub numbers-before-spec : {M : Type 1} → statement M
-numbers-before-spec = tie.close (tie.spec (λ c. search ways) (λ c. search ways))

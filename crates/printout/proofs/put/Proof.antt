@@ -1,7 +1,0 @@
-use borrow.Author.Needs.{needs}
-use Rattle.printout.proofs.Texts.{stored}
-use Rattle.printout.proofs.put.Statement.{statement}
-use Rattle.printout.proofs.put.Tie as tie
-
-pub put-spec : {M : Type 1} → statement M
-put-spec = tie.close (tie.spec (λ c. search needs) (λ c. search needs) (λ c. search needs) (λ c. search stored))

@@ -1,0 +1,11 @@
+// Whether a reason fits a call's basic state: what a sound record asks of its own, and numbers 10 and 11 of an event's.
+ghost use mathlib.Core.Path.{_≡_};
+ghost use Rattle.call.specs.Record.{fits as fitsState};
+use call::Call;
+
+// "reason fits the basic state (cfu and cfb Proceeding, cfnr Received)"
+pub fn fits(reason: u8, c: Call) -> bool
+    ensures { λ r. ⌜ r ≡ fitsState reason c ⌝ }
+{
+    (((reason == 1) | (reason == 2)) & (c.basic == 1)) | ((reason == 3) & (c.basic == 2))
+}

@@ -1,6 +1,0 @@
-use Rattle.ground.proofs.Ways.{ways}
-use Rattle.refusal.proofs.split.Statement.{statement}
-use Rattle.refusal.proofs.split.Tie as tie
-
-pub split-spec : {M : Type 1} → statement M
-split-spec = tie.close (tie.spec (λ c. search ways depth 9) (λ c. search ways depth 9) (λ c. search ways depth 9))
