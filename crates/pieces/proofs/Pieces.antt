@@ -14,10 +14,10 @@ use Rattle.board.proofs.Boards.{tested-short}
 use Rattle.board.proofs.Kept.{start-sound, board-kept}
 use Rattle.printout.specs.Line.{line, printed}
 use Rattle.printout.specs.Panel.{linesText, wholeEvents, cutText, panelText}
 use Rattle.panel.specs.Play.{boardAfter}
-use Rattle.panel.specs.Pieces.{unplayed, InTurns, over, onward, TurnsPrint}
+use Rattle.pieces.specs.Pieces.{unplayed, InTurns, over, onward, TurnsPrint}
 use Rattle.panel.proofs.Boards.{stays-long, lines-on, after-none, after-more}
 use Rattle.panel.proofs.Records.{events-taken, events-behind, events-split, events-long}
 
 -- what a list of events leaves is sound, and its array as long
 after-sound : (b : Board) (es : List Event) → soundBoard b ≡ true → soundBoard (boardAfter b es) ≡ true
