@@ -1,6 +1,7 @@
 pub mod Denials
 pub mod Sound
 pub mod Made
+pub mod ByKind
 pub mod KeptIncoming
 pub mod KeptOutgoing
 pub mod Kept
