@@ -3,7 +3,7 @@ use Prim.Native.Nat.{ℕ, _+_, _*_, _/_, _%_, _<_}
 use mathlib.Core.Path.{_≡_, refl}
 use native.Mathlib.Omega.{arith}
 use Rattle.event.specs.declared.Event.{Event}
-use Rattle.decision.specs.Words.{headWord, codesWord, numbersWord, eventOf}
+use Rattle.decision.specs.Words.{headWord, codesWord, firstWord, secondWord, eventOf}
 
 -- four bytes
 module _ (a b c d : ℕ) (ha : a < 256) (hb : b < 256) (hc : c < 256) where
@@ -22,26 +22,20 @@ module _ (a b c d : ℕ) (ha : a < 256) (hb : b < 256) (hc : c < 256) where
   pub byte-3 : w / 16777216 ≡ d
   byte-3 = omega (arith, ha, hb, hc)
 
--- four pairs of bytes
-module _ (a b c d : ℕ) (ha : a < 65536) (hb : b < 65536) (hc : c < 65536) where
+-- two pairs of bytes
+module _ (a b : ℕ) (ha : a < 65536) where
   abbrev v : ℕ
-  v = a + 65536 * b + 4294967296 * c + 281474976710656 * d
+  v = a + 65536 * b
 
   pub pair-0 : v % 65536 ≡ a
   pair-0 = omega (arith, ha)
 
-  pub pair-1 : v / 65536 % 65536 ≡ b
-  pair-1 = let e : v / 65536 ≡ b + 65536 * (c + 65536 * d) = omega (arith, ha) in rw e (omega (arith, hb))
-
-  pub pair-2 : v / 4294967296 % 65536 ≡ c
-  pair-2 = let e : v / 4294967296 ≡ c + 65536 * d = omega (arith, ha, hb) in rw e (omega (arith, hc))
-
-  pub pair-3 : v / 281474976710656 ≡ d
-  pair-3 = omega (arith, ha, hb, hc)
+  pub pair-1 : v / 65536 ≡ b
+  pair-1 = omega (arith, ha)
 
 -- an event by way of its words is itself
-pub held-same : (e : Event) → e .kind < 256 → e .call < 256 → e .leg < 256 → e .reason < 256 → e .option < 256 → e .counter < 256 → e .identifier < 65536 → e .first < 65536 → e .second < 65536 → eventOf (headWord e) (codesWord e) (numbersWord e) (e .time) ≡ e
-held-same e k c l r o n i f s =
+pub held-same : (e : Event) → e .kind < 256 → e .call < 256 → e .leg < 256 → e .reason < 256 → e .option < 256 → e .counter < 256 → e .identifier < 65536 → e .second < 65536 → eventOf (headWord e) (codesWord e) (firstWord e) (secondWord e) (e .time) ≡ e
+held-same e k c l r o n i s =
     rw (
       byte-0 (e .kind) (e .call) (e .leg) (e .message) k c l,
       byte-1 (e .kind) (e .call) (e .leg) (e .message) k c l,
@@ -51,9 +45,9 @@ held-same e k c l r o n i f s =
       byte-1 (e .reason) (e .option) (e .counter) (e .flag) r o n,
       byte-2 (e .reason) (e .option) (e .counter) (e .flag) r o n,
       byte-3 (e .reason) (e .option) (e .counter) (e .flag) r o n,
-      pair-0 (e .identifier) (e .first) (e .second) (e .third) i f s,
-      pair-1 (e .identifier) (e .first) (e .second) (e .third) i f s,
-      pair-2 (e .identifier) (e .first) (e .second) (e .third) i f s,
-      pair-3 (e .identifier) (e .first) (e .second) (e .third) i f s,
+      pair-0 (e .identifier) (e .first) i,
+      pair-1 (e .identifier) (e .first) i,
+      pair-0 (e .second) (e .third) s,
+      pair-1 (e .second) (e .third) s,
     )
     refl

@@ -8,11 +8,14 @@ headWord e = e .kind + 256 * e .call + 65536 * e .leg + 16777216 * e .message
 abbrev pub codesWord : Event → ℕ
 codesWord e = e .reason + 256 * e .option + 65536 * e .counter + 16777216 * e .flag
 
-abbrev pub numbersWord : Event → ℕ
-numbersWord e = e .identifier + 65536 * e .first + 4294967296 * e .second + 281474976710656 * e .third
+abbrev pub firstWord : Event → ℕ
+firstWord e = e .identifier + 65536 * e .first
 
-abbrev pub eventOf : ℕ → ℕ → ℕ → ℕ → Event
-eventOf head codes numbers time = record {
+abbrev pub secondWord : Event → ℕ
+secondWord e = e .second + 65536 * e .third
+
+abbrev pub eventOf : ℕ → ℕ → ℕ → ℕ → ℕ → Event
+eventOf head codes first second time = record {
   kind = head % 256;
   call = head / 256 % 256;
   leg = head / 65536 % 256;
@@ -21,9 +24,9 @@ eventOf head codes numbers time = record {
   option = codes / 256 % 256;
   counter = codes / 65536 % 256;
   flag = codes / 16777216;
-  identifier = numbers % 65536;
-  first = numbers / 65536 % 65536;
-  second = numbers / 4294967296 % 65536;
-  third = numbers / 281474976710656;
+  identifier = first % 65536;
+  first = first / 65536;
+  second = second % 65536;
+  third = second / 65536;
   time = time;
 }

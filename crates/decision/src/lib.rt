@@ -3,7 +3,7 @@
 ghost use mathlib.Core.Path.{_≡_};
 ghost use Prim.Native.Nat.{_≤_};
 ghost use Rattle.decision.specs.Decision.{decisionBy};
-ghost use Rattle.decision.specs.Words.{headWord, codesWord, numbersWord, eventOf};
+ghost use Rattle.decision.specs.Words.{headWord, codesWord, firstWord, secondWord, eventOf};
 use call::Call;
 use change::Decision;
 use event::Event;
@@ -29,17 +29,20 @@ fn codes_word(e: Event) -> u32
         + 16777216 * (e.flag as u32)
 }
 
-fn numbers_word(e: Event) -> u64
-    ensures { λ r. ⌜ r ≡ numbersWord e ⌝ }
+fn first_word(e: Event) -> u32
+    ensures { λ r. ⌜ r ≡ firstWord e ⌝ }
 {
-    (e.identifier as u64)
-        + 65536 * (e.first as u64)
-        + 4294967296 * (e.second as u64)
-        + 281474976710656 * (e.third as u64)
+    (e.identifier as u32) + 65536 * (e.first as u32)
 }
 
-fn event_of(head: u32, codes: u32, numbers: u64, time: u64) -> Event
-    ensures { λ r. ⌜ r ≡ eventOf head codes numbers time ⌝ }
+fn second_word(e: Event) -> u32
+    ensures { λ r. ⌜ r ≡ secondWord e ⌝ }
+{
+    (e.second as u32) + 65536 * (e.third as u32)
+}
+
+fn event_of(head: u32, codes: u32, first: u32, second: u32, time: u64) -> Event
+    ensures { λ r. ⌜ r ≡ eventOf head codes first second time ⌝ }
 {
     Event {
         kind: (head % 256) as u8,
@@ -50,22 +53,23 @@ fn event_of(head: u32, codes: u32, numbers: u64, time: u64) -> Event
         option: (codes / 256 % 256) as u8,
         counter: (codes / 65536 % 256) as u8,
         flag: (codes / 16777216) as u8,
-        identifier: (numbers % 65536) as u16,
-        first: (numbers / 65536 % 65536) as u16,
-        second: (numbers / 4294967296 % 65536) as u16,
-        third: (numbers / 281474976710656) as u16,
+        identifier: (first % 65536) as u16,
+        first: (first / 65536) as u16,
+        second: (second % 65536) as u16,
+        third: (second / 65536) as u16,
         time: time,
     }
 }
 
-// The event itself, by way of three numbers: the compiler then holds those, and not twelve fields.
+// The event itself, by way of four numbers: the compiler then holds those, and not twelve fields.
 fn held(e: Event) -> Event
     ensures { λ r. ⌜ r ≡ e ⌝ }
 {
     let head = head_word(e);
     let codes = codes_word(e);
-    let numbers = numbers_word(e);
-    event_of(head, codes, numbers, e.time)
+    let first = first_word(e);
+    let second = second_word(e);
+    event_of(head, codes, first, second, e.time)
 }
 
 // One event, on what was noted and picked of the first n records and on the record where it acts.

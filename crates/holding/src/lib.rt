@@ -88,7 +88,7 @@ fn four_idle(p: Pendings) -> bool
     (a.wait == 0) & (d.wait == 0) & (i.wait == 0) & (c.wait == 0)
 }
 
-// The other fields of all four are 0: two tests, of what starts and of what identifies.
+// The other fields of all four are 0: those of one width stand side by side, so that they are one test.
 fn four_blank(p: Pendings) -> bool
     ensures { λ r. ⌜ r ≡ fourBlank p ⌝ }
 {

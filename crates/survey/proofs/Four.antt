@@ -40,6 +40,7 @@ idle-adds-nothing : (v : Noted) (p : Pending) → p .wait ≡ 0 → withPending 
 unfolding withPending
 idle-adds-nothing v p e = rw e refl
 
+-- where none of the four waits nothing is added
 pub four-idle : (v : Noted) (p : Pendings) → fourIdle p ≡ true → v ≡ withFour v p
 four-idle v p h =
     let a = eqb (p .activation .wait) 0 in

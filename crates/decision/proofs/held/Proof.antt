@@ -8,9 +8,9 @@ use Rattle.decision.proofs.held.Tie as tie
 
 returns : tie.Need-returns
 returns c =
-    let e = c .before .before .before .before .args .e in
-    rw (c .event-of .ensures, c .before .numbers-word .ensures, c .before .before .codes-word .ensures, c .before .before .before .head-word .ensures)
-    (held-same e (search needs) (search needs) (search needs) (search needs) (search needs) (search needs) (search needs) (search needs) (search needs))
+    let e = c .before .before .before .before .before .args .e in
+    rw (c .event-of .ensures, c .before .second-word .ensures, c .before .before .first-word .ensures, c .before .before .before .codes-word .ensures, c .before .before .before .before .head-word .ensures)
+    (held-same e (search needs) (search needs) (search needs) (search needs) (search needs) (search needs) (search needs) (search needs))
 
 pub held-spec : {M : Type 1} → statement M
-held-spec = tie.close (tie.spec (λ c κs. tt) (λ c κs. tt) (λ c κs. tt) (λ c κs. tt) returns)
+held-spec = tie.close (tie.spec (λ c κs. tt) (λ c κs. tt) (λ c κs. tt) (λ c κs. tt) (λ c κs. tt) returns)
