@@ -21,7 +21,7 @@ returns-2 c =
     let a = k .before .before .before .args in
     c .unchanged2 .ensures
     ∙ by-turn (a .input) (a .v) (a .n) (a .p) (a .c) (k .in-bounds .result) (k .in-bounds .ensures) (r .before .place-seen .result) (r .before .place-seen .ensures)
-    (Refused (g .0 .0)) (sym (r .turned .ensures) ∙ g .1) (r .before .before .if1 .left)
+    (Refused (g .0 .0)) (sym (rw (k .before .held .ensures) at (r .turned .ensures)) ∙ g .1) (r .before .before .if1 .left)
 
 returns-3 : tie.Need-returns-3
 returns-3 c =
@@ -29,9 +29,9 @@ returns-3 c =
     let r = c .before .before .before .before .before in
     let k = r .before .before .before in
     let a = k .before .before .before .args in
-    c .moved .ensures ∙ rw (c .before .station-far .ensures, c .before .before .step .ensures)
+    c .moved .ensures ∙ rw (c .before .station-far .ensures, c .before .before .step .ensures, k .before .held .ensures)
     (by-turn (a .input) (a .v) (a .n) (a .p) (a .c) (k .in-bounds .result) (k .in-bounds .ensures) (r .before .place-seen .result) (r .before .place-seen .ensures)
-    Far (sym (r .turned .ensures) ∙ g .1) (r .before .before .if1 .left))
+    Far (sym (rw (k .before .held .ensures) at (r .turned .ensures)) ∙ g .1) (r .before .before .if1 .left))
 
 acted-requires : tie.Need-acted-requires
 acted-requires c κs =
@@ -39,8 +39,9 @@ acted-requires c κs =
     let r = c .before .before in
     let k = r .before .before .before in
     let a = k .before .before .before .args in
-    has-rule (a .input) (a .v) (a .n) (a .p) (a .c) (k .in-bounds .result) (k .in-bounds .ensures) (r .before .place-seen .result) (r .before .place-seen .ensures)
-    Done (sym (r .turned .ensures) ∙ g .1) refl (omega (arith, k .before .before .before .good))
+    rw (k .before .held .ensures)
+    (has-rule (a .input) (a .v) (a .n) (a .p) (a .c) (k .in-bounds .result) (k .in-bounds .ensures) (r .before .place-seen .result) (r .before .place-seen .ensures)
+    Done (sym (rw (k .before .held .ensures) at (r .turned .ensures)) ∙ g .1) refl (omega (arith, k .before .before .before .good)))
 
 changed-requires : tie.Need-changed-requires
 changed-requires c κs =
@@ -49,7 +50,7 @@ changed-requires c κs =
     let k = r .before .before .before in
     let a = k .before .before .before .args in
     let l = there (a .input) (a .v) (a .n) (a .p) (a .c) (k .in-bounds .result) (k .in-bounds .ensures) (r .before .place-seen .result) (r .before .place-seen .ensures)
-    Done (sym (r .turned .ensures) ∙ g .1) in
+    Done (sym (rw (k .before .held .ensures) at (r .turned .ensures)) ∙ g .1) in
     omega (arith, l, k .before .before .before .pre)
 
 returns-4 : tie.Need-returns-4
@@ -58,12 +59,12 @@ returns-4 c =
     let r = c .before .before .before .before .before in
     let k = r .before .before .before in
     let a = k .before .before .before .args in
-    c .changed .ensures ∙ rw (c .before .station-on .ensures, c .before .before .acted .ensures)
+    c .changed .ensures ∙ rw (c .before .station-on .ensures, c .before .before .acted .ensures, k .before .held .ensures)
     (by-turn (a .input) (a .v) (a .n) (a .p) (a .c) (k .in-bounds .result) (k .in-bounds .ensures) (r .before .place-seen .result) (r .before .place-seen .ensures)
-    Done (sym (r .turned .ensures) ∙ g .1) (r .before .before .if1 .left))
+    Done (sym (rw (k .before .held .ensures) at (r .turned .ensures)) ∙ g .1) (r .before .before .if1 .left))
 
 pub decided-on-spec : {M : Type 1} → statement M
 decided-on-spec =
     tie.close
-    (tie.spec (λ c κs. tt) (λ c κs. tt) returns (λ c κs. tt) (λ c κs. tt) (λ c. search needs) (λ c κs. tt) returns-2 (λ c. search needs) (λ c κs. tt)
+    (tie.spec (λ c κs. tt) (λ c κs. tt) (λ c κs. tt) returns (λ c κs. tt) (λ c κs. tt) (λ c. search needs) (λ c κs. tt) returns-2 (λ c. search needs) (λ c κs. tt)
     (λ c κs. tt) (λ c κs. tt) returns-3 (λ c. search needs) acted-requires (λ c κs. tt) changed-requires returns-4)
