@@ -13,13 +13,12 @@ use Rattle.call.specs.declared.Effect.{Effect}
 use Rattle.call.specs.Record.{isOutgoing, isIncoming, proceeding, active, requested, granted, divert, invoked, fits, freeCall}
 use Rattle.call.specs.Soundness.{startHolds, soundCall}
 use Rattle.call.specs.State.{leaving, addressed, messageForbids, stateForbids}
-use Rattle.call.specs.Incoming.{idle}
-use Rattle.call.specs.Outgoing.{messaged}
+use Rattle.call.specs.Incoming.{idle, actIncoming}
+use Rattle.call.specs.Outgoing.{messaged, actOutgoing}
 use Rattle.call.specs.Act.{ended, act}
 use Rattle.call.proofs.Denials.{denied}
 use Rattle.call.proofs.Sound.{Outgoing, Incoming, Sound, free, outgoing, incoming, outgoing-of, incoming-of, free-sound, outgoing-sound, incoming-sound, sound-view, unasked}
 use Rattle.call.proofs.Made.{Made, opensOutgoing, opensIncoming, opensDiverted, alerts, answers, divertsCall, results, rejects, legFails, clocks, endsOwn, invokes, informs, messages, farEnds, made}
-use Rattle.call.proofs.ByKind.{actOn, act-has}
 use Rattle.call.proofs.KeptIncoming as inc
 use Rattle.call.proofs.KeptOutgoing as out
 
@@ -112,26 +111,23 @@ module _ (identifier : ℕ) (c : Call) (e : Event) (h : T (soundCall (e .time) c
       (λ l. left-outgoing (out.taken-over-kept e w (denied (onLeg2 e) (invoked c) q l)))
       (λ _. left-outgoing (out.first-leg-kept e w (not-T (active c) (λ t. T-not (releaseComplete e) r (denied (active c) (releaseComplete e) p t))))))
 
-  has : (n : ℕ) → e .kind ≡ n → Leaves (e .time) identifier (eqb n 6) (actOn c e identifier n) → Leaves (e .time) identifier (diverts e) (act c e identifier)
-  has n k p = act-has c e identifier (λ (m : ℕ) (x : Effect). Leaves (e .time) identifier (eqb m 6) x) n k p
-
   left : Made e → Leaves (e .time) identifier (diverts e) (act c e identifier)
-  unfolding stateForbids
-  left (opensOutgoing k f) = has 1 k (left-outgoing (out.opened-kept e f))
-  left (opensIncoming k f) = has 2 k (left-incoming (inc.opened-kept e k f) tt)
-  left (opensDiverted k f) = has 3 k (left-incoming (inc.opened-diverted-kept e k f) tt)
+  unfolding act actIncoming actOutgoing stateForbids
+  left (opensOutgoing k f) = rw k (left-outgoing (out.opened-kept e f))
+  left (opensIncoming k f) = rw k (left-incoming (rw k at (inc.opened-kept e k f)) tt)
+  left (opensDiverted k f) = rw k (left-incoming (rw k at (inc.opened-diverted-kept e k f)) tt)
   left (alerts k f) =
       let w = as-incoming (rw k tt) in
       let q = alerts-unheld c e k n w in
-      has 4 k (left-incoming (inc.alerted-kept w q) (nor-l (requested c) (granted c) q))
-  left (answers k f) = let r = inc.answered-kept e (as-incoming (rw k tt)) in has 5 k (left-incoming (r .sound) (r .unasked))
+      rw k (left-incoming (inc.alerted-kept w q) (nor-l (requested c) (granted c) q))
+  left (answers k f) = let r = inc.answered-kept e (as-incoming (rw k tt)) in rw k (left-incoming (r .sound) (r .unasked))
   left (divertsCall k f) =
       let m = rw k at n in
       let x : T (not (not (fits (e .reason) c) || (requested c || granted c))) = search nor-l depth 8 in
       let p : T (not (not (fits (e .reason) c))) = search nor-l in
       let q : T (not (requested c || granted c)) = search nor-r in
       let l : T (leb (e .reason) 3) = search (and-l, and-r) depth 12 in
-      has 6 k
+      rw k
       (record {
         sound = λ z. incoming-sound (inc.diverted-kept e identifier z (as-incoming (rw k tt)) (not-not (fits (e .reason) c) p) l q);
         request = λ _. (tt, refl {a = identifier});
@@ -139,18 +135,18 @@ module _ (identifier : ℕ) (c : Call) (e : Event) (h : T (soundCall (e .time) c
   left (results k f) =
       let m = rw k at n in
       let p : T (not (not (requested c))) = search nor-l depth 8 in
-      has 7 k (left-incoming (inc.grant-kept (as-incoming (rw k tt)) (not-not (requested c) p)) tt)
-  left (rejects k f) = has 8 k (left-idle c (incoming (as-incoming (rw k tt))))
-  left (legFails k f) = has 9 k (left-idle c (incoming (as-incoming (rw k tt))))
-  left (clocks k f) = has 10 k (left-idle c (sound-view (e .time) c h))
-  left (endsOwn k f) = has 11 k (left-ended c)
-  left (invokes k f) = has 12 k (left-outgoing (out.rerouted-kept e (as-outgoing (rw k tt)) f))
+      rw k (left-incoming (inc.grant-kept (as-incoming (rw k tt)) (not-not (requested c) p)) tt)
+  left (rejects k f) = rw k (left-idle c (incoming (as-incoming (rw k tt))))
+  left (legFails k f) = rw k (left-idle c (incoming (as-incoming (rw k tt))))
+  left (clocks k f) = rw k (left-idle c (sound-view (e .time) c h))
+  left (endsOwn k f) = rw k (left-ended c)
+  left (invokes k f) = rw k (left-outgoing (out.rerouted-kept e (as-outgoing (rw k tt)) f))
   left (informs k f) =
       let m = rw k at n in
       let p : T (not (active c)) = search nor-l depth 8 in
-      has 13 k (left-outgoing (out.informed-kept e (as-outgoing (rw k tt)) f p))
-  left (messages k f) = has 14 k (messaged-left false k)
-  left (farEnds k f) = has 15 k left-free
+      rw k (left-outgoing (out.informed-kept e (as-outgoing (rw k tt)) f p))
+  left (messages k f) = rw k (messaged-left false k)
+  left (farEnds k f) = rw k left-free
 
 -- "Each done event leaves a sound table": the record that the event acts on
 pub act-kept : (last identifier : ℕ) (c : Call) (e : Event) → T (not (eqb identifier 0)) → T (soundCall last c) → last ≤ e .time → T (callMade e)

@@ -1,7 +1,6 @@
 pub mod Denials
 pub mod Sound
 pub mod Made
-pub mod ByKind
 pub mod KeptIncoming
 pub mod KeptOutgoing
 pub mod Kept

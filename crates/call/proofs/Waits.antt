@@ -1,11 +1,10 @@
 -- What waits with leg 2 is what was accepted since Invoked began, in order, by the events alone; what is sent goes by it. Assumes nothing.
 use Prim.Native.Nat.{ℕ, zero, suc}
-use mathlib.Core.Path.{_≡_, refl, sym, ap, _∙_}
+use mathlib.Core.Path.{_≡_, refl, ap, _∙_}
 use mathlib.Core.Bool.{true, false, not, _&&_, _||_}
 use mathlib.Core.List.{List, [], _∷_, _++_}
 use native.Mathlib.Omega.{arith}
-use lib.Dec.{T, eqb, leb, ltb, eqb→eq, leb→le}
-use lib.ListN.{length}
+use lib.Dec.{T, eqb, leb, eqb→eq, leb→le}
 use borrow.Author.Tests.{eqb-true}
 use Rattle.ground.specs.Choice.{when_then_else_}
 use Rattle.ground.proofs.Bools.{and-l, and-r, nor-l, nor-r, is-true, is-false, by-cases, from-true, when-has}
@@ -13,7 +12,7 @@ use Rattle.ground.proofs.Walks.{and-false}
 use Rattle.event.specs.declared.Event.{Event}
 use Rattle.event.specs.Kinds.{cfu, cfb, cfnr, facility, alerting, connect, releaseComplete, onLeg2, ofOutgoing}
 use Rattle.notice.specs.declared.Dli1.{Dli1}
-use Rattle.waits.specs.Waits.{noDli1, room, mostWait, lastAfter}
+use Rattle.waits.specs.Waits.{noDli1, room, lastAfter}
 use Rattle.waits.specs.Soundness.{waitsHold}
 use Rattle.waits.proofs.Laws.{appends}
 use Rattle.waits.proofs.Counted.{room-below}
@@ -24,12 +23,12 @@ use Rattle.call.specs.declared.Effect.{Effect}
 use Rattle.call.specs.Record.{active, delivered, divert, invoked, wait, forwardedParty}
 use Rattle.call.specs.Soundness.{soundCall}
 use Rattle.call.specs.State.{addressed, messageForbids, stateForbids}
-use Rattle.call.specs.Outgoing.{goesOn, turnsDown, dli1Of, rerouted, cdrIdle, movedOver, withDli3, afterMessage, messaged}
+use Rattle.call.specs.Incoming.{actIncoming}
+use Rattle.call.specs.Outgoing.{goesOn, turnsDown, dli1Of, rerouted, cdrIdle, movedOver, withDli3, afterMessage, messaged, actOutgoing}
 use Rattle.call.specs.Act.{act}
-use Rattle.call.specs.Told.{waitingOf, joins, leg2Answers, leg1Leaves, acceptedAfter, handsOver, GoesBy}
+use Rattle.call.specs.Told.{waitingOf, joins, acceptedAfter, handsOver, GoesBy}
 use Rattle.call.proofs.Denials.{denied, denied-first}
 use Rattle.call.proofs.Sound.{Outgoing, outgoing-of}
-use Rattle.call.proofs.ByKind.{actOn, act-has}
 use Rattle.call.proofs.Kept.{to-outgoing}
 use Rattle.call.proofs.Made.{Made, opensOutgoing, opensIncoming, opensDiverted, alerts, answers, divertsCall, results, rejects, legFails, clocks, endsOwn, invokes, informs, messages, farEnds}
 
@@ -188,84 +187,67 @@ module _ (c : Call) (e : Event) (w : Outgoing c) where
       (λ t. absurd (rw (k, is-false (onLeg2 e) t, is-false (releaseComplete e) r) at h)))
 
 -- an event that neither is an invoke nor hands over
-elsewhere : {accepted : List Dli1} {c d : Call} {e : Event} {sent : Sent} (n : ℕ) → e .kind ≡ n → eqb n 12 ≡ false → eqb n 14 ≡ false → GoesBy accepted c e sent d
-elsewhere n k p q = record {
-  accepts = λ i t. absurd (rw (k, p) at t);
-  denies = λ i z. let t : T (eqb n 12) = rw (sym k ∙ z) tt in absurd (rw p at t);
-  party = λ t. absurd (rw (k, q) at t);
-}
+elsewhere : {accepted : List Dli1} {c d : Call} {e : Event} {sent : Sent} → joins accepted c e ≡ false → (e .kind ≡ 12 → ⊥) → handsOver c e ≡ false
+    → GoesBy accepted c e sent d
+elsewhere j k h = record { accepts = λ i t. absurd (rw j at t); denies = λ i q. absurd (k q); party = λ t. absurd (rw h at t) }
 
 module _ (last identifier : ℕ) (c : Call) (e : Event) (h : T (soundCall last c)) (a : T (addressed c e)) (n : T (not (stateForbids c e))) where
   outgoing-here : T (ofOutgoing e) → Outgoing c
   outgoing-here t = outgoing-of last c h (to-outgoing c e a t)
 
-  -- `acceptedAfter` with n for the kind
-  abbrev acceptedOn : ℕ → List Dli1
-  acceptedOn n =
-      when (leb 1 n && leb n 3) || (eqb n 14 && (leg2Answers c e || leg1Leaves c e))
-      || (eqb n 11 || eqb n 15 || (eqb n 14 && ((onLeg2 e && releaseComplete e) || (not (onLeg2 e) && connect e)))) then [] else
-      when eqb n 12 && (when invoked c then onLeg2 e && (eqb (e .reason) cfu || eqb (e .reason) cfb) && ltb (length (waitingOf c)) mostWait
-      else eqb (e .reason) cfnr && delivered c) then waitingOf c ++ (dli1Of e ∷ []) else
-      waitingOf c
-
-  has : (n : ℕ) → e .kind ≡ n → waitingOf (actOn c e identifier n .call) ≡ acceptedOn n → waitingOf (act c e identifier .call) ≡ acceptedAfter (waitingOf c) c e
-  has n k p = act-has c e identifier (λ (m : ℕ) (x : Effect). waitingOf (x .call) ≡ acceptedOn m) n k p
-
-  -- by its kind an event is one rule's
-  invoke-acts : e .kind ≡ 12 → act c e identifier ≡ rerouted c e
-  invoke-acts k = act-has c e identifier (λ _ (x : Effect). x ≡ rerouted c e) 12 k refl
-
-  message-acts : e .kind ≡ 14 → act c e identifier ≡ messaged c e
-  message-acts k = act-has c e identifier (λ _ (x : Effect). x ≡ messaged c e) 14 k refl
-
-  invoke-leaves : e .kind ≡ 12 → (when joins (waitingOf c) c e then waitingOf c ++ (dli1Of e ∷ []) else waitingOf c) ≡ acceptedAfter (waitingOf c) c e
-  invoke-leaves k = rw k refl
-
   waits : Made e → waitingOf (act c e identifier .call) ≡ acceptedAfter (waitingOf c) c e
-  unfolding stateForbids
-  waits (opensOutgoing k f) = has 1 k refl
-  waits (opensIncoming k f) = has 2 k refl
-  waits (opensDiverted k f) = has 3 k refl
-  waits (alerts k f) = has 4 k refl
-  waits (answers k f) = has 5 k (when-has (λ (x : Effect). waitingOf (x .call) ≡ waitingOf c) (wait c) (λ _. refl) (λ _. refl))
-  waits (divertsCall k f) = has 6 k refl
-  waits (results k f) = has 7 k refl
-  waits (rejects k f) = has 8 k refl
-  waits (legFails k f) = has 9 k refl
-  waits (clocks k f) = has 10 k refl
-  waits (endsOwn k f) = has 11 k (when-has (λ (x : Effect). waitingOf (x .call) ≡ []) (invoked c) (λ _. refl) (λ _. refl))
-  waits (invokes k f) = ap (λ (x : Effect). waitingOf (x .call)) (invoke-acts k) ∙ (rerouted-waits c e (outgoing-here (rw k tt)) k ∙ invoke-leaves k)
-  waits (informs k f) = has 13 k refl
+  unfolding act actIncoming actOutgoing stateForbids
+  waits (opensOutgoing k f) = rw k refl
+  waits (opensIncoming k f) = rw k refl
+  waits (opensDiverted k f) = rw k refl
+  waits (alerts k f) = rw k refl
+  waits (answers k f) = rw k (when-has (λ (x : Effect). waitingOf (x .call) ≡ waitingOf c) (wait c) (λ _. refl) (λ _. refl))
+  waits (divertsCall k f) = rw k refl
+  waits (results k f) = rw k refl
+  waits (rejects k f) = rw k refl
+  waits (legFails k f) = rw k refl
+  waits (clocks k f) = rw k refl
+  waits (endsOwn k f) = rw k (when-has (λ (x : Effect). waitingOf (x .call) ≡ []) (invoked c) (λ _. refl) (λ _. refl))
+  waits (invokes k f) = rw k (rw k at (rerouted-waits c e (outgoing-here (rw k tt)) k))
+  waits (informs k f) = rw k refl
   waits (messages k f) =
       let u : T (not (messageForbids c e)) = rw k at n in
       let q : T (not (onLeg2 e && not (invoked c))) = search (nor-l, nor-r) depth 8 in
       let low : T (leb 1 (e .message)) = search (and-l, and-r) depth 16 in
       let high : T (leb (e .message) 4) = search (and-l, and-r) depth 16 in
-      ap (λ (x : Effect). waitingOf (x .call)) (message-acts k)
-      ∙ messaged-waits c e (outgoing-here (rw k tt)) k (search (nor-l, nor-r) depth 8) low high (denied (onLeg2 e) (invoked c) q)
-  waits (farEnds k f) = has 15 k refl
+      rw k (rw k at (messaged-waits c e (outgoing-here (rw k tt)) k (search (nor-l, nor-r) depth 8) low high (denied (onLeg2 e) (invoked c) q)))
+  waits (farEnds k f) = rw k refl
+
+  -- by its kind an event is one rule's
+  invoke-acts : e .kind ≡ 12 → act c e identifier ≡ rerouted c e
+  unfolding act actIncoming actOutgoing
+  invoke-acts k = rw k refl
+
+  message-acts : e .kind ≡ 14 → act c e identifier ≡ messaged c e
+  unfolding act actIncoming actOutgoing
+  message-acts k = rw k refl
 
   goes : Made e → GoesBy (waitingOf c) c e (act c e identifier .sent) (act c e identifier .call)
-  goes (opensOutgoing k f) = elsewhere 1 k refl refl
-  goes (opensIncoming k f) = elsewhere 2 k refl refl
-  goes (opensDiverted k f) = elsewhere 3 k refl refl
-  goes (alerts k f) = elsewhere 4 k refl refl
-  goes (answers k f) = elsewhere 5 k refl refl
-  goes (divertsCall k f) = elsewhere 6 k refl refl
-  goes (results k f) = elsewhere 7 k refl refl
-  goes (rejects k f) = elsewhere 8 k refl refl
-  goes (legFails k f) = elsewhere 9 k refl refl
-  goes (clocks k f) = elsewhere 10 k refl refl
-  goes (endsOwn k f) = elsewhere 11 k refl refl
+  goes (opensOutgoing k f) = elsewhere (rw k refl) (λ q. omega (arith, k, q)) (rw k refl)
+  goes (opensIncoming k f) = elsewhere (rw k refl) (λ q. omega (arith, k, q)) (rw k refl)
+  goes (opensDiverted k f) = elsewhere (rw k refl) (λ q. omega (arith, k, q)) (rw k refl)
+  goes (alerts k f) = elsewhere (rw k refl) (λ q. omega (arith, k, q)) (rw k refl)
+  goes (answers k f) = elsewhere (rw k refl) (λ q. omega (arith, k, q)) (rw k refl)
+  goes (divertsCall k f) = elsewhere (rw k refl) (λ q. omega (arith, k, q)) (rw k refl)
+  goes (results k f) = elsewhere (rw k refl) (λ q. omega (arith, k, q)) (rw k refl)
+  goes (rejects k f) = elsewhere (rw k refl) (λ q. omega (arith, k, q)) (rw k refl)
+  goes (legFails k f) = elsewhere (rw k refl) (λ q. omega (arith, k, q)) (rw k refl)
+  goes (clocks k f) = elsewhere (rw k refl) (λ q. omega (arith, k, q)) (rw k refl)
+  goes (endsOwn k f) = elsewhere (rw k refl) (λ q. omega (arith, k, q)) (rw k refl)
   goes (invokes k f) = rw (invoke-acts k) (rerouted-goes c e (outgoing-here (rw k tt)) k)
-  goes (informs k f) = elsewhere 13 k refl refl
+  goes (informs k f) = elsewhere (rw k refl) (λ q. omega (arith, k, q)) (rw k refl)
   goes (messages k f) =
       rw (message-acts k) (record {
         accepts = λ i j. absurd (rw k at j);
         denies = λ i z. absurd (omega (arith, k, z));
         party = messaged-party c e (outgoing-here (rw k tt)) k;
       })
-  goes (farEnds k f) = elsewhere 15 k refl refl
+  goes (farEnds k f) = elsewhere (rw k refl) (λ q. omega (arith, k, q)) (rw k refl)
 
 pub act-waits : (last identifier : ℕ) (accepted : List Dli1) (c : Call) (e : Event) → T (soundCall last c) → T (addressed c e) → T (not (stateForbids c e)) → Made e
     → waitingOf c ≡ accepted → waitingOf (act c e identifier .call) ≡ acceptedAfter accepted c e
