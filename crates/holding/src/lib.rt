@@ -78,7 +78,7 @@ pub fn remote_refusal(r: Remote, e: Event) -> u8
 }
 
 // None of the four waits, which is one test of their codes.
-fn four_idle(p: Pendings) -> bool
+pub fn four_idle(p: Pendings) -> bool
     ensures { λ r. ⌜ r ≡ fourIdle p ⌝ }
 {
     let a = p.activation;

@@ -14,11 +14,12 @@ use Rattle.timed.specs.declared.Pending.{Pending}
 use Rattle.timed.specs.Timed.{waits, Timer, own, identifiersOf}
 use Rattle.remote.specs.declared.Pendings.{Pendings}
 use Rattle.remote.specs.Held.{timersOf}
+use Rattle.holding.specs.Idle.{fourIdle}
 use Rattle.call.specs.declared.Call.{Call}
 use Rattle.station.specs.Table.{requestsOf}
 use Rattle.survey.specs.declared.Asked.{Asked}
 use Rattle.survey.specs.declared.Noted.{Noted}
-use Rattle.survey.specs.Survey.{has, withBit, slotOf, surveyOf, withPending, fourIdle, withFour}
+use Rattle.survey.specs.Survey.{has, withBit, slotOf, surveyOf, withPending, withFour}
 use Rattle.survey.proofs.Bits.{has-with}
 use Rattle.survey.proofs.Laws.{marked, stay, other, survey-marks, survey-clash}
 

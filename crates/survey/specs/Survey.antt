@@ -70,10 +70,6 @@ withPending v p = record {
   marks = marksWith (v .marks) p;
 }
 
--- none of the four waits, by their codes
-abbrev pub fourIdle : Pendings → Bool
-fourIdle p = eqb (p .activation .wait) 0 && eqb (p .deactivation .wait) 0 && eqb (p .interrogation .wait) 0 && eqb (p .check .wait) 0
-
 -- what is noted with the four requests that a station may hold: document 02, Seven: "so "no two open requests share" covers both tables"
 abbrev pub withFour : Noted → Pendings → Noted
 withFour v p = withPending (withPending (withPending (withPending v (p .activation)) (p .deactivation)) (p .interrogation)) (p .check)

@@ -4,7 +4,7 @@ ghost use mathlib.Core.Path.{_≡_};
 ghost use Prim.Native.Nat.{_≤_, _<_};
 ghost use lib.ListN.{length, take};
 ghost use Rattle.call.specs.Record.{requestOf};
-ghost use Rattle.survey.specs.Survey.{has, withBit, slotOf, freeWith, dueWith, marksWith, clashWith, unseenOf, notedOf, surveyOf, withPending, fourIdle, withFour};
+ghost use Rattle.survey.specs.Survey.{has, withBit, slotOf, freeWith, dueWith, marksWith, clashWith, unseenOf, notedOf, surveyOf, withPending, withFour};
 use call::Call;
 use remote::Pendings;
 use timed::Pending;
@@ -166,25 +166,11 @@ fn with_pending(v: Noted, p: Pending) -> Noted
     }
 }
 
-// None of the four waits, which is one test of their codes.
-fn four_idle(p: Pendings) -> bool
-    ensures { λ r. ⌜ r ≡ fourIdle p ⌝ }
-{
-    let activation = p.activation;
-    let deactivation = p.deactivation;
-    let interrogation = p.interrogation;
-    let check = p.check;
-    (activation.wait == 0)
-        & (deactivation.wait == 0)
-        & (interrogation.wait == 0)
-        & (check.wait == 0)
-}
-
 // What is noted with the four requests that a station may hold; mostly none waits.
 pub fn with_four(v: Noted, p: Pendings) -> Noted
     ensures { λ r. ⌜ r ≡ withFour v p ⌝ }
 {
-    if four_idle(p) {
+    if holding::four_idle(p) {
         return v;
     }
     let activation = with_pending(v, p.activation);
