@@ -78,7 +78,8 @@ pub fn decided_on(input: Input, v: Noted, n: usize, p: Pick, c: Call) -> Decisio
     ensures { λ r. ⌜ r ≡ decisionBy input v n p c ⌝ }
 {
     let s = input.station;
-    let e = held(input.event);
+    let event = input.event;
+    let e = held(event);
     let well = v.sound;
     let apart = p.apart;
     let identifier = p.identifier;
