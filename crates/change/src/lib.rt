@@ -5,8 +5,11 @@ ghost use Rattle.change.specs.Change.{unchangedAs, movedAs, changedAs};
 use call::Call;
 use call::Effect;
 use remote::Moved;
+use remote::Pendings;
+use remote::Remote;
 use station::Answer;
 use station::Station;
+use timed::Pending;
 
 // What goes out beside the table.
 #[repr(C)]
@@ -35,10 +38,52 @@ pub fn change_of(d: Decision) -> Change
     d.change
 }
 
+// A request, field by field: as a whole it is moved with the five bytes behind its last field, which the compiler then carries through every arm.
+fn request_by_fields(p: Pending) -> Pending
+    ensures { λ r. ⌜ r ≡ p ⌝ }
+{
+    Pending {
+        start: p.start,
+        identifier: p.identifier,
+        wait: p.wait,
+    }
+}
+
+// The same for all that a station holds.
+fn station_by_fields(s: Station) -> Station
+    ensures { λ r. ⌜ r ≡ s ⌝ }
+{
+    let held = s.remote;
+    let kept = held.kept;
+    let pending = Pendings {
+        activation: request_by_fields(held.pending.activation),
+        deactivation: request_by_fields(held.pending.deactivation),
+        interrogation: request_by_fields(held.pending.interrogation),
+        check: request_by_fields(held.pending.check),
+    };
+    let remote = Remote {
+        pending: pending,
+        kept: kept,
+        enabled: held.enabled,
+        allowed: held.allowed,
+    };
+    Station {
+        last: s.last,
+        next: s.next,
+        limit: s.limit,
+        remote: remote,
+    }
+}
+
 pub fn reply_of(d: Decision) -> Reply
     ensures { λ r. ⌜ r ≡ d .reply ⌝ }
 {
-    d.reply
+    let answer = d.reply.answer;
+    let station = station_by_fields(d.reply.station);
+    Reply {
+        answer: answer,
+        station: station,
+    }
 }
 
 // Refused: no record changes.

@@ -1,1 +1,2 @@
 pub mod Decision
+pub mod Words

@@ -55,7 +55,7 @@ pub fn acted(e: Event, seen: Seen) -> Effect
         }
         // "11 own side ends the call"
         11 => {
-            return legs::ended(c);
+            return ending::ended(c);
         }
         // "12 callRerouting invoke received"
         12 => {
@@ -74,7 +74,7 @@ pub fn acted(e: Event, seen: Seen) -> Effect
             return message::freed();
         }
         _ => {
-            return legs::ended(c);
+            return ending::ended(c);
         }
     }
 }

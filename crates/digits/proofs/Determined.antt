@@ -1,4 +1,4 @@
--- What `write_line` and `write_cut` promise determines their outcome: the buffer and the place behind the text. Assumes nothing.
+-- What is promised of a text written into a buffer (`Written`) determines the outcome: the buffer and the place behind the text. Assumes nothing.
 use Prim.Native.Nat.{ℕ, _+_}
 use mathlib.Core.Path.{_≡_}
 use mathlib.Core.List.{List}

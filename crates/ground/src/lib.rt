@@ -5,13 +5,13 @@ ghost use lib.ListN.{length, drop};
 ghost use lib.Seq.{paste};
 ghost use Rattle.ground.specs.Bytes.{pair, four, wordAt, longAt};
 
-pub fn paired(high: u8, low: u8) -> u16
+fn paired(high: u8, low: u8) -> u16
     ensures { λ r. ⌜ r ≡ pair high low ⌝ }
 {
     (high as u16) * 256 + (low as u16)
 }
 
-pub fn joined(a: u16, b: u16, c: u16, d: u16) -> u64
+fn joined(a: u16, b: u16, c: u16, d: u16) -> u64
     ensures { λ r. ⌜ r ≡ four a b c d ⌝ }
 {
     (a as u64) * 281474976710656 + (b as u64) * 4294967296 + (c as u64) * 65536 + (d as u64)

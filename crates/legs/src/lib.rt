@@ -1,11 +1,10 @@
-// "14: .." what a message on a leg of an outgoing call does, and "11": the end of a call on its legs.
+// "14: .." what a message on a leg of an outgoing call does.
 ghost use mathlib.Core.Path.{_≡_};
 ghost use mathlib.Core.Bool.{_&&_};
 ghost use Rattle.ground.specs.Choice.{when_then_else_};
 ghost use Rattle.event.specs.Kinds.{connect};
 ghost use Rattle.call.specs.Record.{invoked};
 ghost use Rattle.call.specs.Messages.{legFailedOn, releaseOn, one, nothing, sending};
-ghost use Rattle.call.specs.Act.{ended};
 ghost use Rattle.call.specs.Outgoing.{handOver, cdrIdle, movedOver, withDli3, numberFor, afterMessage, takenOver, onFirstLeg, leg2Remains, released, messaged};
 use call::Call;
 use call::Effect;
@@ -201,19 +200,5 @@ pub fn messaged(c: Call, e: Event) -> Effect
         taken_over(c, e)
     } else {
         on_first_leg(c, e)
-    }
-}
-
-// "11 sends RELEASE COMPLETE, .. the record is free and its request ended"; in Invoked on leg 2 too
-pub fn ended(c: Call) -> Effect
-    ensures { λ r. ⌜ r ≡ ended c ⌝ }
-{
-    let free = blank::free_call();
-    let first = message::bare(b'X', 1);
-    if c.cdr == 1 {
-        let second = message::bare(b'X', 2);
-        message::sending(free, message::two(first, second))
-    } else {
-        message::sending(free, message::one(first))
     }
 }

@@ -36,7 +36,7 @@ pub struct Shown {
 }
 
 impl History {
-    pub fn strictest_with(self, option: u8) -> u8
+    fn strictest_with(self, option: u8) -> u8
         ensures { λ r. ⌜ r ≡ strictestWith self option ⌝ }
     {
         if self.seen == 1 {
@@ -50,7 +50,7 @@ impl History {
         }
     }
 
-    pub fn gives_notice(self, d: Dli1) -> bool
+    fn gives_notice(self, d: Dli1) -> bool
         ensures { λ r. ⌜ r ≡ givesNotice self d ⌝ }
     {
         let option = self.strictest_with(d.option);
@@ -61,7 +61,7 @@ impl History {
         }
     }
 
-    pub fn notice_of(self, d: Dli1) -> u8
+    fn notice_of(self, d: Dli1) -> u8
         ensures { λ r. ⌜ r ≡ noticeOf self d ⌝ }
     {
         if self.gives_notice(d) { d.reason } else { 255 }
@@ -94,7 +94,7 @@ impl History {
         }
     }
 
-    pub fn may_show(self, flag: u8) -> bool
+    fn may_show(self, flag: u8) -> bool
         ensures { λ r. ⌜ r ≡ mayShow self flag ⌝ }
     {
         (flag == 1) & (self.strictest == 2) & (self.forbidden == 0) & (self.shown == 0)

@@ -2,5 +2,4 @@ pub mod Boards
 pub mod Playing
 pub mod InPlace
 pub mod Records
-pub mod Pieces
 pub mod Determined

@@ -3,26 +3,8 @@ ghost use mathlib.Core.Path.{_≡_};
 ghost use Prim.Native.Nat.{_+_, _≤_};
 ghost use lib.ListN.{length};
 ghost use Rattle.digits.specs.Written.{wrote};
-ghost use Rattle.plantext.specs.Text.{beginning, onward, numbersBefore, startAfter, atFault, digitRead, spaceRead, lineRead, wholeLine, newlineRead, byteRead, markByte, packed, endsPanel, stored, textRead, planAfter, closing, panelsRead, numbersLent};
+ghost use Rattle.plantext.specs.Text.{onward, numbersBefore, startAfter, atFault, digitRead, spaceRead, lineRead, wholeLine, newlineRead, byteRead, markByte, packed, endsPanel, stored, textRead, planAfter, closing};
 use plantext::Reading;
-
-// Nothing is read yet.
-pub fn begin() -> Reading
-    ensures { λ r. ⌜ r ≡ beginning ⌝ }
-{
-    Reading {
-        line: 1,
-        numbers: 0,
-        begun: false,
-        value: 0,
-        start: 0,
-        cfu: 0,
-        cfb: 0,
-        cfnr: 0,
-        busy: 0,
-        fault: 0,
-    }
-}
 
 // The next line's number, as far as 64 bits go.
 fn next_number(line: usize) -> usize
@@ -206,25 +188,5 @@ pub fn finish(r: Reading, plan: &mut [u16]) -> Reading
         read_byte(r, 10)
     } else {
         r
-    }
-}
-
-// How many panels were read; those without room count too.
-fn panels_read(r: Reading) -> usize
-    ensures { λ n. ⌜ n ≡ panelsRead r ⌝ }
-{
-    let line = r.line;
-    if line < 2 { 0 } else { line - 2 }
-}
-
-// How many numbers of a plan with so much room are theirs.
-pub fn numbers_lent(r: Reading, room: usize) -> usize
-    ensures { λ n. ⌜ n ≡ numbersLent r room ⌝ }
-{
-    let panels = panels_read(r);
-    if panels < room / 4 {
-        panels * 4
-    } else {
-        room / 4 * 4
     }
 }

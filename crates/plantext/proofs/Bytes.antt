@@ -1,4 +1,4 @@
--- What the functions of one byte found, as the definition says it. Assumes nothing.
+-- What is known at one byte, as the definition says it; the code of `planreading` cites it. Assumes nothing.
 use Prim.Native.Nat.{ℕ, _+_, _/_, _≤_}
 use mathlib.Core.Bool.{Bool, true, false, _&&_}
 use mathlib.Core.List.{List, [], _∷_}

@@ -63,7 +63,7 @@ fn tell_fault(line: usize) {
 fn conclude(r: Reading, plan: &mut [u16]) {
     let whole = planreading::finish(r, plan);
     if whole.fault == 0 {
-        let n = planreading::numbers_lent(whole, plan.len());
+        let n = planends::numbers_lent(whole, plan.len());
         print_rehearsal(&plan[..n], whole.start);
     } else {
         tell_fault(whole.fault);
@@ -71,7 +71,7 @@ fn conclude(r: Reading, plan: &mut [u16]) {
 }
 
 fn main() {
-    let mut reading = planreading::begin();
+    let mut reading = planends::begin();
     let mut plan = plan_buffer();
     let mut input = io::large_buffer();
     // A proved loop ends, and nothing says that the text does: more turns than any text takes.

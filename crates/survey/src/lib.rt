@@ -166,10 +166,13 @@ fn with_pending(v: Noted, p: Pending) -> Noted
     }
 }
 
-// What is noted with the four requests that a station may hold.
+// What is noted with the four requests that a station may hold; mostly none waits.
 pub fn with_four(v: Noted, p: Pendings) -> Noted
     ensures { λ r. ⌜ r ≡ withFour v p ⌝ }
 {
+    if holding::four_idle(p) {
+        return v;
+    }
     let activation = with_pending(v, p.activation);
     let deactivation = with_pending(activation, p.deactivation);
     let interrogation = with_pending(deactivation, p.interrogation);

@@ -127,7 +127,24 @@ module _ {M : Type 1} (𝓤 : URA M) (H : Heap 𝓤) (A : Atoms 𝓤) (W : Given
   noted : (v : Noted) (n : ℕ) (r : Asked) → r ≡ askedOf input → v ≡ surveyOf r n 0 (take n ys) → v ≡ surveyOf (askedOf input) n 0 (take n ys)
   noted v n r e₂ e₃ = e₃ ∙ ap (λ (k : Asked). surveyOf k n 0 (take n ys)) e₂
 
-  -- from `picked` on, what table owns; the token; local k at 20 − 2 · k, and after it that it dies
+  -- the decision is returned; each value is a variable here. What table owns; the token; local k at 20 − 2 · k, and after it that it dies
+  module _ (C : Calls 𝓤 H) (Λ : Loops 𝓤 H) (l₀ l₁ l₂ l₃ l₄ l₅ l₆ l₇ l₈ l₉ : ℕ) (v₂ v₃ v₄ v₅ v₆ v₇ v₈ v₉ v₀ : Val) (told : ent 𝓤 (⋆ 𝓤 H A (‵ Own ∷ ‵ (flft κ q) ∷ [])) (Post v₀)) where
+    abbrev En₂ : Env 𝓤 H
+    En₂ = (D′.mir, l₀) ∷ (shared, l₁) ∷ (I′.mir, l₂) ∷ (tyInt w64, l₃) ∷ (Q′.mir, l₄) ∷ (N′.mir, l₅) ∷ (tyInt w64, l₆) ∷ (cell, l₇) ∷ (P′.mir, l₈) ∷ (tyInt w64, l₉) ∷ []
+
+    abbrev At₂ : List (Item 𝓤)
+    At₂ = ‵ Own ∷ ‵ (flft κ q) ∷ ‵ (fat fullShare (tyInt w64) l₉ 0 v₉) ∷ ‵ (fdies (tyInt w64) l₉) ∷ ‵ (fat fullShare P′.mir l₈ 0 v₈) ∷ ‵ (fdies P′.mir l₈) ∷ ‵ (fat fullShare cell l₇ 0 v₇) ∷ ‵ (fdies cell l₇)
+        ∷ ‵ (fat fullShare (tyInt w64) l₆ 0 v₆) ∷ ‵ (fdies (tyInt w64) l₆) ∷ ‵ (fat fullShare N′.mir l₅ 0 v₅) ∷ ‵ (fdies N′.mir l₅) ∷ ‵ (fat fullShare Q′.mir l₄ 0 v₄) ∷ ‵ (fdies Q′.mir l₄)
+        ∷ ‵ (fat fullShare (tyInt w64) l₃ 0 v₃) ∷ ‵ (fdies (tyInt w64) l₃) ∷ ‵ (fat fullShare I′.mir l₂ 0 v₂) ∷ ‵ (fdies I′.mir l₂) ∷ ‵ (fat fullShare shared l₁ 0 s) ∷ ‵ (fdies shared l₁)
+        ∷ ‵ (fat fullShare D′.mir l₀ 0 v₀) ∷ ‵ (fdies D′.mir l₀) ∷ []
+
+    finishes : Sq W At₂ (runs C Λ En₂ mir.t-9 (atRet En₂ Post))
+    finishes =
+        returns ! (look ! 20 refl) $ forget ! 2 refl $ forget ! 4 refl $ forget ! 6 refl $ forget ! 8 refl $ forget ! 10 refl $ forget ! 12 refl $ forget ! 14 refl $ forget ! 16 refl $ forget ! 18 refl $ forget ! 20 refl $
+        move ! (20 ∷ 21 ∷ []) $ free1 ! $ move ! (18 ∷ 19 ∷ []) $ free1 ! $ move ! (16 ∷ 17 ∷ []) $ free1 ! $ move ! (14 ∷ 15 ∷ []) $ free1 ! $ move ! (12 ∷ 13 ∷ []) $ free1 ! $ move ! (10 ∷ 11 ∷ []) $ free1 ! $ move ! (8 ∷ 9 ∷ []) $ free1 ! $ move ! (6 ∷ 7 ∷ []) $ free1 ! $ move ! (4 ∷ 5 ∷ []) $ free1 ! $ move ! (2 ∷ 3 ∷ []) $ free1 ! $ free0 ! $
+        keep ! (0 ∷ 1 ∷ []) $ by ! told
+
+  -- from `picked` on
   module _ (C : Calls 𝓤 H) (Λ : Loops 𝓤 H) (fm : FmC 𝓤 H (W .laws) C) (known-picked : Triple 𝓤 (C picked-def.name) (Picks 𝓤 H A mem run)) (known-decided : Triple 𝓤 (C decided-def.name) (Decide 𝓤 H A mem run))
       (l₀ l₁ l₂ l₃ l₄ l₅ l₆ l₇ l₈ l₉ : ℕ) (n : ℕ) (gn : n < 2 ^ 64) (e₁ : n ≡ fitOf (length ys)) (r : Asked) (e₂ : r ≡ askedOf input) (v : Noted) (gv : IsN v) (e₃ : v ≡ surveyOf r n 0 (take n ys)) (i : ℕ) (e₄ : i ≡ placeSeen v input) (c : Call) (gc : Is R c (vals c)) (e₅ : c ≡ record-of (take n ys) i) where
     abbrev En : Env 𝓤 H
@@ -157,9 +174,7 @@ module _ {M : Type 1} (𝓤 : URA M) (H : Heap 𝓤) (A : Atoms 𝓤) (W : Given
         split ! $ move ! (1 ∷ []) $ use1 W (raw (fact 𝓤 (d ≡ decisionBy input v n p c))) (decided-of 𝓤 H A mem run input v n p c d) $ heard ! (d ≡ decisionBy input v n p c) (λ e₇. split ! $ drop ! $
         peeks ! D.the-row (Is D.the-row) (shows 𝓤 H A D.the-row) d (w₇ ∷ []) (λ gd.
         land ! (from ! (stop !)) (init ! 21 refl (LL.lawful D.the-type D′.the-laws 𝓤 H A W .typed d _ gd .0)) $ rewrite ! 21 (λ (u : Val). ‵ (fat fullShare D′.mir l₀ 0 u)) (ap only (D′.lowers .val-is d (w₇ ∷ []) gd)) refl $ drop ! $
-        returns ! (look ! 20 refl) $ forget ! 2 refl $ forget ! 4 refl $ forget ! 6 refl $ forget ! 8 refl $ forget ! 10 refl $ forget ! 12 refl $ forget ! 14 refl $ forget ! 16 refl $ forget ! 18 refl $ forget ! 20 refl $
-        move ! (20 ∷ 21 ∷ []) $ free1 ! $ move ! (18 ∷ 19 ∷ []) $ free1 ! $ move ! (16 ∷ 17 ∷ []) $ free1 ! $ move ! (14 ∷ 15 ∷ []) $ free1 ! $ move ! (12 ∷ 13 ∷ []) $ free1 ! $ move ! (10 ∷ 11 ∷ []) $ free1 ! $ move ! (8 ∷ 9 ∷ []) $ free1 ! $ move ! (6 ∷ 7 ∷ []) $ free1 ! $ move ! (4 ∷ 5 ∷ []) $ free1 ! $ move ! (2 ∷ 3 ∷ []) $ free1 ! $ free0 ! $
-        keep ! (0 ∷ 1 ∷ []) $ by ! (exits d (spelledD d w₇ gd) (e₇ ∙ looked-is input ys n v i c p e₁ (noted v n r e₂ e₃) e₄ e₅ e₆))))))))))
+        keep ! (0 ∷ 1 ∷ 2 ∷ 3 ∷ 4 ∷ 5 ∷ 6 ∷ 7 ∷ 8 ∷ 9 ∷ 10 ∷ 11 ∷ 12 ∷ 13 ∷ 14 ∷ 15 ∷ 16 ∷ 17 ∷ 18 ∷ 19 ∷ 20 ∷ 21 ∷ []) $ finishes C Λ l₀ l₁ l₂ l₃ l₄ l₅ l₆ l₇ l₈ l₉ u₀ (vint w64 n) (Q′.lowered r) (N′.lowered v) (vint w64 i) (only (vals c)) (P′.lowered p) (vint w64 (length ys)) (D′.lowered d) (exits d (spelledD d w₇ gd) (e₇ ∙ looked-is input ys n v i c p e₁ (noted v n r e₂ e₃) e₄ e₅ e₆))))))))))
 
   -- from `place_seen` on
   module _ (C : Calls 𝓤 H) (Λ : Loops 𝓤 H) (fm : FmC 𝓤 H (W .laws) C) (known-place : Triple 𝓤 (C place-def.name) (Place 𝓤 H A mem run)) (known-read : Triple 𝓤 (C read-def.name) (Read 𝓤 H A mem run)) (known-picked : Triple 𝓤 (C picked-def.name) (Picks 𝓤 H A mem run)) (known-decided : Triple 𝓤 (C decided-def.name) (Decide 𝓤 H A mem run))

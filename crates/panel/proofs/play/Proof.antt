@@ -1,15 +1,19 @@
 -- Each arm of the loop by what becomes of the event; the invariant is the text so far. Assumes nothing.
-use Prim.Native.Nat.{_≤_, _<_, _-_, _/_, _*_}
+use Prim.Native.Nat.{ℕ, _≤_, _<_, _+_, _-_, _/_, _*_}
+use mathlib.Core.List.{List}
 use mathlib.Core.Logic.{⊎-elim}
 use mathlib.Core.Path.{_≡_, refl, sym, ap, _∙_}
 use native.Mathlib.Omega.{arith}
 use borrow.Author.Needs.{needs}
 use lib.ListN.{length, getD, set}
 use Rattle.ground.proofs.Walks.{mapped-long}
+use Rattle.call.specs.declared.Call.{Call}
 use Rattle.call.specs.Record.{freeCall}
 use Rattle.call.proofs.Read.{unread, read-any}
 use Rattle.expiry.specs.Expiry.{never}
 use Rattle.sight.specs.declared.Seen.{Seen}
+use Rattle.station.specs.declared.Station.{Station}
+use Rattle.board.specs.declared.Board.{Board}
 use Rattle.board.specs.Board.{stepSoundBoard, within}
 use Rattle.board.proofs.Boards.{tested-short, within-small, within-near}
 use Rattle.board.proofs.Beside.{notes, boardNow, Beside, beside-start, beside-soon, beside-next, may-flip}
@@ -60,11 +64,11 @@ identifier-in-requires c κs =
 
 add-write-line : tie.Need-add-write-line Inv-loop μ-loop
 add-write-line c =
-    omega (arith, c .before .before .before .before .before .before .before .before .before .before .before .before .before .before .loop, c .before .before .before .before .before .before .before .before .before .before .before .before .before .loop-test, c .before .before .before .before .before .before .before .before .before .before .before .before .before .before .before .before .before .before .before .before .before .before .before .good, c .before .before .before .before .before .before .before .before .before .before .before .before .before .before .before .before .before .before .before .before .before .before .before .pre, c .before .before .before .before .before .before .before .before .before .before .before .before .before .before .before .before .before .before .before .before .least .ensures, c .before .before .before .before .before .before .before .before .before .before .before .before .before .before .before .before .before .before .before .before .before .before .before .fits, tested-short (c .before .before .before .before .before .before .before .before .before .before .before .before .before .before .before .before .before .before .before .before .before .before .before .args .b) (c .before .before .before .before .before .before .before .before .before .before .before .before .before .before .before .before .before .before .before .before .before .before .before .pre .0), c .before .before .before .before .before .before .before .before .before .before .before .before .before .before .loop .inv .0 .upto, c .before .before .before .before .before .before .before .before .before .before .before .before .before .before .loop .inv .0 .room, c .before .before .before .before .before .before .before .before .before .before .before .before .before .before .loop .inv .0 .same)
+    omega (arith, c .before .before .before .before .before .before .before .before .before .before .before .before .before .before .loop, c .before .before .before .before .before .before .before .before .before .before .before .before .before .loop-test, c .before .before .before .before .before .before .before .before .before .before .before .before .before .before .before .before .before .before .before .before .before .before .before .pre .1, c .before .before .before .before .before .before .before .before .before .before .before .before .before .before .before .before .before .before .before .before .least .ensures, c .before .before .before .before .before .before .before .before .before .before .before .before .before .before .before .before .before .before .before .before .before .before .before .fits, c .before .before .before .before .before .before .before .before .before .before .before .before .before .before .loop .inv .0 .upto, c .before .before .before .before .before .before .before .before .before .before .before .before .before .before .loop .inv .0 .room, c .before .before .before .before .before .before .before .before .before .before .before .before .before .before .loop .inv .0 .same)
 
 write-line-requires : tie.Need-write-line-requires Inv-loop μ-loop
 write-line-requires c κs =
-    omega (arith, c .before .before .before .before .before .before .before .before .before .before .before .before .before .before .loop, c .before .before .before .before .before .before .before .before .before .before .before .before .before .loop-test, c .before .before .before .before .before .before .before .before .before .before .before .before .before .before .before .before .before .before .before .before .before .before .before .good, c .before .before .before .before .before .before .before .before .before .before .before .before .before .before .before .before .before .before .before .before .before .before .before .pre, c .before .before .before .before .before .before .before .before .before .before .before .before .before .before .before .before .before .before .before .before .least .ensures, c .before .before .before .before .before .before .before .before .before .before .before .before .before .before .before .before .before .before .before .before .before .before .before .fits, tested-short (c .before .before .before .before .before .before .before .before .before .before .before .before .before .before .before .before .before .before .before .before .before .before .before .args .b) (c .before .before .before .before .before .before .before .before .before .before .before .before .before .before .before .before .before .before .before .before .before .before .before .pre .0), c .before .before .before .before .before .before .before .before .before .before .before .before .before .before .loop .inv .0 .upto, c .before .before .before .before .before .before .before .before .before .before .before .before .before .before .loop .inv .0 .room, c .before .before .before .before .before .before .before .before .before .before .before .before .before .before .loop .inv .0 .same)
+    omega (arith, c .before .before .before .before .before .before .before .before .before .before .before .before .before .before .loop, c .before .before .before .before .before .before .before .before .before .before .before .before .before .loop-test, c .before .before .before .before .before .before .before .before .before .before .before .before .before .before .before .before .before .before .before .before .before .before .before .pre .1, c .before .before .before .before .before .before .before .before .before .before .before .before .before .before .before .before .before .before .before .before .least .ensures, c .before .before .before .before .before .before .before .before .before .before .before .before .before .before .before .before .before .before .before .before .before .before .before .fits, c .before .before .before .before .before .before .before .before .before .before .before .before .before .before .loop .inv .0 .upto, c .before .before .before .before .before .before .before .before .before .before .before .before .before .before .loop .inv .0 .room, c .before .before .before .before .before .before .before .before .before .before .before .before .before .before .loop .inv .0 .same)
 
 refresh-requires : tie.Need-refresh-requires Inv-loop μ-loop
 refresh-requires c κs =
@@ -72,11 +76,11 @@ refresh-requires c κs =
 
 add-write-line-2 : tie.Need-add-write-line-2 Inv-loop μ-loop
 add-write-line-2 c =
-    omega (arith, c .before .before .before .before .before .before .before .before .before .before .before .before .before .before .before .before .before .loop, c .before .before .before .before .before .before .before .before .before .before .before .before .before .before .before .before .loop-test, c .before .before .before .before .before .before .before .before .before .before .before .before .before .before .before .before .before .before .before .before .before .before .before .before .before .before .good, c .before .before .before .before .before .before .before .before .before .before .before .before .before .before .before .before .before .before .before .before .before .before .before .before .before .before .pre, c .before .before .before .before .before .before .before .before .before .before .before .before .before .before .before .before .before .before .before .before .before .before .before .least .ensures, c .before .before .before .before .before .before .before .before .before .before .before .before .before .before .before .before .before .before .before .before .before .before .before .before .before .before .fits, tested-short (c .before .before .before .before .before .before .before .before .before .before .before .before .before .before .before .before .before .before .before .before .before .before .before .before .before .before .args .b) (c .before .before .before .before .before .before .before .before .before .before .before .before .before .before .before .before .before .before .before .before .before .before .before .before .before .before .pre .0), c .before .before .before .before .before .before .before .before .before .before .before .before .before .before .before .before .before .loop .inv .0 .upto, c .before .before .before .before .before .before .before .before .before .before .before .before .before .before .before .before .before .loop .inv .0 .room, c .before .before .before .before .before .before .before .before .before .before .before .before .before .before .before .before .before .loop .inv .0 .same)
+    omega (arith, c .before .before .before .before .before .before .before .before .before .before .before .before .before .before .before .before .before .loop, c .before .before .before .before .before .before .before .before .before .before .before .before .before .before .before .before .loop-test, c .before .before .before .before .before .before .before .before .before .before .before .before .before .before .before .before .before .before .before .before .before .before .before .before .before .before .pre .1, c .before .before .before .before .before .before .before .before .before .before .before .before .before .before .before .before .before .before .before .before .before .before .before .least .ensures, c .before .before .before .before .before .before .before .before .before .before .before .before .before .before .before .before .before .before .before .before .before .before .before .before .before .before .fits, c .before .before .before .before .before .before .before .before .before .before .before .before .before .before .before .before .before .loop .inv .0 .upto, c .before .before .before .before .before .before .before .before .before .before .before .before .before .before .before .before .before .loop .inv .0 .room, c .before .before .before .before .before .before .before .before .before .before .before .before .before .before .before .before .before .loop .inv .0 .same)
 
 write-line-requires-2 : tie.Need-write-line-requires-2 Inv-loop μ-loop
 write-line-requires-2 c κs =
-    omega (arith, c .before .before .before .before .before .before .before .before .before .before .before .before .before .before .before .before .before .loop, c .before .before .before .before .before .before .before .before .before .before .before .before .before .before .before .before .loop-test, c .before .before .before .before .before .before .before .before .before .before .before .before .before .before .before .before .before .before .before .before .before .before .before .before .before .before .good, c .before .before .before .before .before .before .before .before .before .before .before .before .before .before .before .before .before .before .before .before .before .before .before .before .before .before .pre, c .before .before .before .before .before .before .before .before .before .before .before .before .before .before .before .before .before .before .before .before .before .before .before .least .ensures, c .before .before .before .before .before .before .before .before .before .before .before .before .before .before .before .before .before .before .before .before .before .before .before .before .before .before .fits, tested-short (c .before .before .before .before .before .before .before .before .before .before .before .before .before .before .before .before .before .before .before .before .before .before .before .before .before .before .args .b) (c .before .before .before .before .before .before .before .before .before .before .before .before .before .before .before .before .before .before .before .before .before .before .before .before .before .before .pre .0), c .before .before .before .before .before .before .before .before .before .before .before .before .before .before .before .before .before .loop .inv .0 .upto, c .before .before .before .before .before .before .before .before .before .before .before .before .before .before .before .before .before .loop .inv .0 .room, c .before .before .before .before .before .before .before .before .before .before .before .before .before .before .before .before .before .loop .inv .0 .same)
+    omega (arith, c .before .before .before .before .before .before .before .before .before .before .before .before .before .before .before .before .before .loop, c .before .before .before .before .before .before .before .before .before .before .before .before .before .before .before .before .loop-test, c .before .before .before .before .before .before .before .before .before .before .before .before .before .before .before .before .before .before .before .before .before .before .before .before .before .before .pre .1, c .before .before .before .before .before .before .before .before .before .before .before .before .before .before .before .before .before .before .before .before .before .before .before .least .ensures, c .before .before .before .before .before .before .before .before .before .before .before .before .before .before .before .before .before .before .before .before .before .before .before .before .before .before .fits, c .before .before .before .before .before .before .before .before .before .before .before .before .before .before .before .before .before .loop .inv .0 .upto, c .before .before .before .before .before .before .before .before .before .before .before .before .before .before .before .before .before .loop .inv .0 .room, c .before .before .before .before .before .before .before .before .before .before .before .before .before .before .before .before .before .loop .inv .0 .same)
 
 acted-requires : tie.Need-acted-requires Inv-loop μ-loop
 acted-requires c κs =
@@ -173,19 +177,28 @@ cast-answer-of c =
 
 add-write-line-3 : tie.Need-add-write-line-3 Inv-loop μ-loop
 add-write-line-3 c =
-    omega (arith, c .before .before .before .before .before .before .before .before .before .before .before .before .before .before .before .before .before .before .before .before .loop, c .before .before .before .before .before .before .before .before .before .before .before .before .before .before .before .before .before .before .before .loop-test, c .before .before .before .before .before .before .before .before .before .before .before .before .before .before .before .before .before .before .before .before .before .before .before .before .before .before .before .before .before .good, c .before .before .before .before .before .before .before .before .before .before .before .before .before .before .before .before .before .before .before .before .before .before .before .before .before .before .before .before .before .pre, c .before .before .before .before .before .before .before .before .before .before .before .before .before .before .before .before .before .before .before .before .before .before .before .before .before .before .least .ensures, c .before .before .before .before .before .before .before .before .before .before .before .before .before .before .before .before .before .before .before .before .before .before .before .before .before .before .before .before .before .fits, tested-short (c .before .before .before .before .before .before .before .before .before .before .before .before .before .before .before .before .before .before .before .before .before .before .before .before .before .before .before .before .before .args .b) (c .before .before .before .before .before .before .before .before .before .before .before .before .before .before .before .before .before .before .before .before .before .before .before .before .before .before .before .before .before .pre .0), c .before .before .before .before .before .before .before .before .before .before .before .before .before .before .before .before .before .before .before .before .loop .inv .0 .upto, c .before .before .before .before .before .before .before .before .before .before .before .before .before .before .before .before .before .before .before .before .loop .inv .0 .room, c .before .before .before .before .before .before .before .before .before .before .before .before .before .before .before .before .before .before .before .before .loop .inv .0 .same)
+    omega (arith, c .before .before .before .before .before .before .before .before .before .before .before .before .before .before .before .before .before .before .before .before .loop, c .before .before .before .before .before .before .before .before .before .before .before .before .before .before .before .before .before .before .before .loop-test, c .before .before .before .before .before .before .before .before .before .before .before .before .before .before .before .before .before .before .before .before .before .before .before .before .before .before .before .before .before .pre .1, c .before .before .before .before .before .before .before .before .before .before .before .before .before .before .before .before .before .before .before .before .before .before .before .before .before .before .least .ensures, c .before .before .before .before .before .before .before .before .before .before .before .before .before .before .before .before .before .before .before .before .before .before .before .before .before .before .before .before .before .fits, c .before .before .before .before .before .before .before .before .before .before .before .before .before .before .before .before .before .before .before .before .loop .inv .0 .upto, c .before .before .before .before .before .before .before .before .before .before .before .before .before .before .before .before .before .before .before .before .loop .inv .0 .room, c .before .before .before .before .before .before .before .before .before .before .before .before .before .before .before .before .before .before .before .before .loop .inv .0 .same)
 
 write-line-requires-3 : tie.Need-write-line-requires-3 Inv-loop μ-loop
 write-line-requires-3 c κs =
-    omega (arith, c .before .before .before .before .before .before .before .before .before .before .before .before .before .before .before .before .before .before .before .before .loop, c .before .before .before .before .before .before .before .before .before .before .before .before .before .before .before .before .before .before .before .loop-test, c .before .before .before .before .before .before .before .before .before .before .before .before .before .before .before .before .before .before .before .before .before .before .before .before .before .before .before .before .before .good, c .before .before .before .before .before .before .before .before .before .before .before .before .before .before .before .before .before .before .before .before .before .before .before .before .before .before .before .before .before .pre, c .before .before .before .before .before .before .before .before .before .before .before .before .before .before .before .before .before .before .before .before .before .before .before .before .before .before .least .ensures, c .before .before .before .before .before .before .before .before .before .before .before .before .before .before .before .before .before .before .before .before .before .before .before .before .before .before .before .before .before .fits, tested-short (c .before .before .before .before .before .before .before .before .before .before .before .before .before .before .before .before .before .before .before .before .before .before .before .before .before .before .before .before .before .args .b) (c .before .before .before .before .before .before .before .before .before .before .before .before .before .before .before .before .before .before .before .before .before .before .before .before .before .before .before .before .before .pre .0), c .before .before .before .before .before .before .before .before .before .before .before .before .before .before .before .before .before .before .before .before .loop .inv .0 .upto, c .before .before .before .before .before .before .before .before .before .before .before .before .before .before .before .before .before .before .before .before .loop .inv .0 .room, c .before .before .before .before .before .before .before .before .before .before .before .before .before .before .before .before .before .before .before .before .loop .inv .0 .same)
+    omega (arith, c .before .before .before .before .before .before .before .before .before .before .before .before .before .before .before .before .before .before .before .before .loop, c .before .before .before .before .before .before .before .before .before .before .before .before .before .before .before .before .before .before .before .loop-test, c .before .before .before .before .before .before .before .before .before .before .before .before .before .before .before .before .before .before .before .before .before .before .before .before .before .before .before .before .before .pre .1, c .before .before .before .before .before .before .before .before .before .before .before .before .before .before .before .before .before .before .before .before .before .before .before .before .before .before .least .ensures, c .before .before .before .before .before .before .before .before .before .before .before .before .before .before .before .before .before .before .before .before .before .before .before .before .before .before .before .before .before .fits, c .before .before .before .before .before .before .before .before .before .before .before .before .before .before .before .before .before .before .before .before .loop .inv .0 .upto, c .before .before .before .before .before .before .before .before .before .before .before .before .before .before .before .before .before .before .before .before .loop .inv .0 .room, c .before .before .before .before .before .before .before .before .before .before .before .before .before .before .before .before .before .before .before .before .loop .inv .0 .same)
 
 add-k : tie.Need-add-k Inv-loop μ-loop
 add-k c =
-    omega (arith, c .before .before .before .before .before .before .before .before .before .before .loop, c .before .before .before .before .before .before .before .before .before .loop-test, c .before .before .before .before .before .before .before .before .before .before .before .before .before .before .before .before .before .before .before .good, c .before .before .before .before .before .before .before .before .before .before .before .before .before .before .before .before .before .before .before .pre, c .before .before .before .before .before .before .before .before .before .before .before .before .before .before .before .before .least .ensures, c .before .before .before .before .before .before .before .before .before .before .before .before .before .before .before .before .before .before .before .fits, tested-short (c .before .before .before .before .before .before .before .before .before .before .before .before .before .before .before .before .before .before .before .args .b) (c .before .before .before .before .before .before .before .before .before .before .before .before .before .before .before .before .before .before .before .pre .0), c .before .before .before .before .before .before .before .before .before .before .loop .inv .0 .upto, c .before .before .before .before .before .before .before .before .before .before .loop .inv .0 .room, c .before .before .before .before .before .before .before .before .before .before .loop .inv .0 .same)
+    omega (arith, c .before .before .before .before .before .before .before .before .before .before .loop, c .before .before .before .before .before .before .before .before .before .loop-test, c .before .before .before .before .before .before .before .before .before .before .before .before .before .before .before .before .before .before .before .pre .1, c .before .before .before .before .before .before .before .before .before .before .before .before .before .before .before .before .least .ensures, c .before .before .before .before .before .before .before .before .before .before .before .before .before .before .before .before .before .before .before .fits, c .before .before .before .before .before .before .before .before .before .before .loop .inv .0 .upto, c .before .before .before .before .before .before .before .before .before .before .loop .inv .0 .room, c .before .before .before .before .before .before .before .before .before .before .loop .inv .0 .same)
 
 loop-less : tie.Need-loop-less Inv-loop μ-loop
 loop-less c =
-    omega (arith, c .before .before .before .before .before .before .before .before .before .before .loop, c .before .before .before .before .before .before .before .before .before .loop-test, c .before .before .before .before .before .before .before .before .before .before .before .before .before .before .before .before .before .before .before .good, c .before .before .before .before .before .before .before .before .before .before .before .before .before .before .before .before .before .before .before .pre, c .before .before .before .before .before .before .before .before .before .before .before .before .before .before .before .before .least .ensures, c .before .before .before .before .before .before .before .before .before .before .before .before .before .before .before .before .before .before .before .fits, tested-short (c .before .before .before .before .before .before .before .before .before .before .before .before .before .before .before .before .before .before .before .args .b) (c .before .before .before .before .before .before .before .before .before .before .before .before .before .before .before .before .before .before .before .pre .0), c .before .before .before .before .before .before .before .before .before .before .loop .inv .0 .upto, c .before .before .before .before .before .before .before .before .before .before .loop .inv .0 .room, c .before .before .before .before .before .before .before .before .before .before .loop .inv .0 .same)
+    omega (arith, c .before .before .before .before .before .before .before .before .before .before .loop, c .before .before .before .before .before .before .before .before .before .loop-test, c .before .before .before .before .before .before .before .before .before .before .before .before .before .before .before .before .before .before .before .pre .1, c .before .before .before .before .before .before .before .before .before .before .before .before .before .before .before .before .least .ensures, c .before .before .before .before .before .before .before .before .before .before .before .before .before .before .before .before .before .before .before .fits, c .before .before .before .before .before .before .before .before .before .before .loop .inv .0 .upto, c .before .before .before .before .before .before .before .before .before .before .loop .inv .0 .room, c .before .before .before .before .before .before .before .before .before .before .loop .inv .0 .same)
+
+-- what the arms give, over the joined values
+joined : (b : Board) (position : ℕ) (bytes old : List ℕ) (n k : ℕ)
+    (out : List ℕ) (calls : List Call) (s : Station) (free soon : ℕ) (dues held : List ℕ) (at : ℕ)
+    {out′ : List ℕ} {calls′ : List Call} {s′ : Station} {free′ soon′ : ℕ} {dues′ held′ : List ℕ} {at′ : ℕ}
+    → out′ ≡ out → calls′ ≡ calls → s′ ≡ s → free′ ≡ free → soon′ ≡ soon → dues′ ≡ dues → held′ ≡ held → at′ ≡ at
+    → Playing b position bytes old n (boardNow b s calls) out at k × Beside (b .len) calls (notes free soon dues held) × (s .limit < 256)
+    → Playing b position bytes old n (boardNow b s′ calls′) out′ at′ k × Beside (b .len) calls′ (notes free′ soon′ dues′ held′) × (s′ .limit < 256)
+joined b position bytes old n k out calls s free soon dues held at o c q f g d h a w = rw (o, c, q, f, g, d, h, a) w
 
 loop-again : tie.Need-loop-again Inv-loop μ-loop
 loop-again c =
@@ -205,23 +218,23 @@ loop-again c =
     let seen : Seen = record { len = b .len; place = pl .result; identifier = id .result; call = getD (v .calls) (wi .result) unread } in
     let near : pl .result < b .len → wi .result ≡ pl .result = λ l. wi .ensures ∙ within-near (pl .result) (b .len) l in
     let there : pl .result < b .len → seen .call ≡ getD (v .calls) (pl .result) freeCall = λ l. ap (λ i. getD (v .calls) i unread) (near l) ∙ read-any (v .calls) (pl .result) unread freeCall (omega (arith, l, w .long, h)) in
-    let wide : c .before .before .before .before .before .before .before .before .before .before .before .before .before .before .before .before .least .result * 96 ≤ length (a .args .out .now) = omega (arith, c .before .before .before .before .before .before .before .before .before .before .loop, c .before .before .before .before .before .before .before .before .before .loop-test, c .before .before .before .before .before .before .before .before .before .before .before .before .before .before .before .before .before .before .before .good, c .before .before .before .before .before .before .before .before .before .before .before .before .before .before .before .before .before .before .before .pre, c .before .before .before .before .before .before .before .before .before .before .before .before .before .before .before .before .least .ensures, c .before .before .before .before .before .before .before .before .before .before .before .before .before .before .before .before .before .before .before .fits, tested-short (c .before .before .before .before .before .before .before .before .before .before .before .before .before .before .before .before .before .before .before .args .b) (c .before .before .before .before .before .before .before .before .before .before .before .before .before .before .before .before .before .before .before .pre .0), c .before .before .before .before .before .before .before .before .before .before .loop .inv .0 .upto, c .before .before .before .before .before .before .before .before .before .before .loop .inv .0 .room, c .before .before .before .before .before .before .before .before .before .before .loop .inv .0 .same) in
+    let wide : c .before .before .before .before .before .before .before .before .before .before .before .before .before .before .before .before .least .result * 96 ≤ length (a .args .out .now) = omega (arith, c .before .before .before .before .before .before .before .before .before .before .loop, c .before .before .before .before .before .before .before .before .before .loop-test, c .before .before .before .before .before .before .before .before .before .before .before .before .before .before .before .before .before .before .before .pre .1, c .before .before .before .before .before .before .before .before .before .before .before .before .before .before .before .before .least .ensures, c .before .before .before .before .before .before .before .before .before .before .before .before .before .before .before .before .before .before .before .fits, c .before .before .before .before .before .before .before .before .before .before .loop .inv .0 .upto, c .before .before .before .before .before .before .before .before .before .before .loop .inv .0 .room, c .before .before .before .before .before .before .before .before .before .before .loop .inv .0 .same) in
     ⊎-elim
     (λ y.
     let known = y .1 .given in
-    rw (y .8, y .9, y .10, y .11, y .12, y .13, y .14, y .15) (playing-refused b (a .args .position) (a .args .bytes .now) (a .args .out .now) (c .before .before .before .before .before .before .before .before .before .before .before .before .before .before .before .before .least .result) (v .s) (v .calls) (v .out) (v .at) (v .k) (v .inv .0) (c .before .before .before .before .before .before .before .before .before .loop-test .taken) e (ev .ensures) (known .0 .0) (y .5 .last .0) (y .5 .result) (turn-refused (boardNow b (v .s) (v .calls)) d e h w late seen refl (pl .ensures) there (id .ensures) (t .result) (t .ensures) (known .0 .0) (known .1) .1) (y .3 .result) (y .3 .ensures) (y .5 .ensures .0) (y .5 .ensures .1) wide (y .5 .kept .0), w, v .inv .2))
+    joined b (a .args .position) (a .args .bytes .now) (a .args .out .now) (c .before .before .before .before .before .before .before .before .before .before .before .before .before .before .before .before .least .result) (v .k + 1) (y .5 .last .0) (v .calls) (v .s) (v .free) (v .soon) (v .dues) (v .held) (y .5 .result) (y .8) (y .9) (y .10) (y .11) (y .12) (y .13) (y .14) (y .15) (playing-refused b (a .args .position) (a .args .bytes .now) (a .args .out .now) (c .before .before .before .before .before .before .before .before .before .before .before .before .before .before .before .before .least .result) (v .s) (v .calls) (v .out) (v .at) (v .k) (v .inv .0) (c .before .before .before .before .before .before .before .before .before .loop-test .taken) e (ev .ensures) (known .0 .0) (y .5 .last .0) (y .5 .result) (turn-refused (boardNow b (v .s) (v .calls)) d e h w late seen refl (pl .ensures) there (id .ensures) (t .result) (t .ensures) (known .0 .0) (known .1) .1) (y .3 .result) (y .3 .ensures) (y .5 .ensures .0) (y .5 .ensures .1) wide (y .5 .kept .0), w, v .inv .2))
     (⊎-elim
     (λ y.
     let known = y .1 .given in
     let soon = beside-soon (b .len) (v .calls) (v .free) (v .soon) (v .dues) (v .held) w _ (e .time) (y .3 .ensures) in
-    rw (y .11, y .12, y .13, y .14, y .15, y .16, y .17, y .18) (playing-far b (a .args .position) (a .args .bytes .now) (a .args .out .now) (c .before .before .before .before .before .before .before .before .before .before .before .before .before .before .before .before .least .result) (v .s) (v .calls) (v .out) (v .at) (v .k) (v .inv .0) (c .before .before .before .before .before .before .before .before .before .loop-test .taken) e (ev .ensures) _ (y .4 .result) (y .8 .last .0) (y .8 .result) (rw (y .5 .ensures) (turn-far (boardNow b (v .s) (v .calls)) d e h w late seen refl (pl .ensures) there (id .ensures) (t .result) (t .ensures) (y .4 .result) (known .1) (y .4 .ensures))) (y .6 .result) (y .6 .ensures) (y .8 .ensures .0) (y .8 .ensures .1) wide (y .8 .kept .0), soon, rw (y .5 .ensures) (v .inv .2)))
+    joined b (a .args .position) (a .args .bytes .now) (a .args .out .now) (c .before .before .before .before .before .before .before .before .before .before .before .before .before .before .before .before .least .result) (v .k + 1) (y .8 .last .0) (v .calls) (y .5 .result) (v .free) (y .3 .result) (v .dues) (v .held) (y .8 .result) (y .11) (y .12) (y .13) (y .14) (y .15) (y .16) (y .17) (y .18) (playing-far b (a .args .position) (a .args .bytes .now) (a .args .out .now) (c .before .before .before .before .before .before .before .before .before .before .before .before .before .before .before .before .least .result) (v .s) (v .calls) (v .out) (v .at) (v .k) (v .inv .0) (c .before .before .before .before .before .before .before .before .before .loop-test .taken) e (ev .ensures) _ (y .4 .result) (y .8 .last .0) (y .8 .result) (rw (y .5 .ensures) (turn-far (boardNow b (v .s) (v .calls)) d e h w late seen refl (pl .ensures) there (id .ensures) (t .result) (t .ensures) (y .4 .result) (known .1) (y .4 .ensures))) (y .6 .result) (y .6 .ensures) (y .8 .ensures .0) (y .8 .ensures .1) wide (y .8 .kept .0), soon, rw (y .5 .ensures) (v .inv .2)))
     (λ y.
     let known = y .1 .given in
     let x = y .2 .result in
     let l = turn-there (boardNow b (v .s) (v .calls)) d e h w late seen refl (pl .ensures) there (id .ensures) (t .result) (t .ensures) (known .1) in
     let i = near l in
     let kept = beside-next (b .len) (v .calls) (v .free) (v .soon) (v .dues) (v .held) h w (wi .result) _ _ _ _ (x .call) (rw i l) (rw (read-any (v .calls) (wi .result) unread freeCall (omega (arith, l, i, w .long, h))) at (y .4 .ensures)) (y .5 .ensures) (y .6 .ensures) (y .7 .ensures) in
-    rw (y .14, y .15, y .16, y .17, y .18, y .19, y .20, y .21) (playing-done b (a .args .position) (a .args .bytes .now) (a .args .out .now) (c .before .before .before .before .before .before .before .before .before .before .before .before .before .before .before .before .least .result) (v .s) (v .calls) (v .out) (v .at) (v .k) (v .inv .0) (c .before .before .before .before .before .before .before .before .before .loop-test .taken) e (ev .ensures) (wi .result) _ x (y .11 .last .0) (y .11 .result) (rw (y .8 .ensures, i) (turn-done (boardNow b (v .s) (v .calls)) d e h w late seen refl (pl .ensures) there (id .ensures) (t .result) (t .ensures) x (known .1) (y .2 .ensures))) (y .9 .result) (y .9 .ensures) (y .11 .ensures .0) (y .11 .ensures .1) wide (y .11 .kept .0), kept, rw (y .8 .ensures) (v .inv .2))))
+    joined b (a .args .position) (a .args .bytes .now) (a .args .out .now) (c .before .before .before .before .before .before .before .before .before .before .before .before .before .before .before .before .least .result) (v .k + 1) (y .11 .last .0) (set (v .calls) (wi .result) (x .call)) (y .8 .result) (y .4 .result) (y .6 .result) (set (v .dues) (wi .result) (y .5 .result)) (set (v .held) (wi .result) (y .7 .result)) (y .11 .result) (y .14) (y .15) (y .16) (y .17) (y .18) (y .19) (y .20) (y .21) (playing-done b (a .args .position) (a .args .bytes .now) (a .args .out .now) (c .before .before .before .before .before .before .before .before .before .before .before .before .before .before .before .before .least .result) (v .s) (v .calls) (v .out) (v .at) (v .k) (v .inv .0) (c .before .before .before .before .before .before .before .before .before .loop-test .taken) e (ev .ensures) (wi .result) _ x (y .11 .last .0) (y .11 .result) (rw (y .8 .ensures, i) (turn-done (boardNow b (v .s) (v .calls)) d e h w late seen refl (pl .ensures) there (id .ensures) (t .result) (t .ensures) x (known .1) (y .2 .ensures))) (y .9 .result) (y .9 .ensures) (y .11 .ensures .0) (y .11 .ensures .1) wide (y .11 .kept .0), kept, rw (y .8 .ensures) (v .inv .2))))
     (c .match .came)
 
 returns : tie.Need-returns Inv-loop μ-loop
@@ -244,15 +257,15 @@ play-spec =
     tie.close
     (tie.spec
     Inv-loop μ-loop (λ c κs. tt) (λ c κs. tested-short (c .before .before .before .before .before .args .b) (c .before .before .before .before .before .pre .0)) loop-holds
-    (λ c. omega (arith, c .before .loop, c .loop-test, c .before .before .before .before .before .before .before .before .before .before .good, c .before .before .before .before .before .before .before .before .before .before .pre, c .before .before .before .before .before .before .before .least .ensures, c .before .before .before .before .before .before .before .before .before .before .fits, tested-short (c .before .before .before .before .before .before .before .before .before .before .args .b) (c .before .before .before .before .before .before .before .before .before .before .pre .0), c .before .loop .inv .0 .upto, c .before .loop .inv .0 .room, c .before .loop .inv .0 .same))
-    (λ c κs. omega (arith, c .before .loop, c .loop-test, c .before .before .before .before .before .before .before .before .before .before .good, c .before .before .before .before .before .before .before .before .before .before .pre, c .before .before .before .before .before .before .before .least .ensures, c .before .before .before .before .before .before .before .before .before .before .fits, tested-short (c .before .before .before .before .before .before .before .before .before .before .args .b) (c .before .before .before .before .before .before .before .before .before .before .pre .0), c .before .loop .inv .0 .upto, c .before .loop .inv .0 .room, c .before .loop .inv .0 .same))
+    (λ c. omega (arith, c .before .loop, c .loop-test, c .before .before .before .before .before .before .before .before .before .before .pre .1, c .before .before .before .before .before .before .before .least .ensures, c .before .before .before .before .before .before .before .before .before .before .fits, c .before .loop .inv .0 .upto, c .before .loop .inv .0 .room, c .before .loop .inv .0 .same))
+    (λ c κs. omega (arith, c .before .loop, c .loop-test, c .before .before .before .before .before .before .before .before .before .before .pre .1, c .before .before .before .before .before .before .before .least .ensures, c .before .before .before .before .before .before .before .before .before .before .fits, c .before .loop .inv .0 .upto, c .before .loop .inv .0 .room, c .before .loop .inv .0 .same))
     place-on-requires (λ c κs. tt) mul-c array-copy-out-c identifier-in-requires (λ c κs. tt)
     (λ c. search needs) (λ c κs. tt) add-write-line write-line-requires
     (λ c. search needs) refresh-requires (λ c κs. tt) (λ c κs. tt) (λ c κs. tt) add-write-line-2 write-line-requires-2
     (λ c. search needs) acted-requires mul-calls array-set-from-calls flip-requires (λ c κs. tt) mul-dues array-write-dues (λ c κs. tt) (λ c κs. tt) mul-held array-write-held (λ c κs. tt)
     cast-answer-of (λ c κs. tt) add-write-line-3 write-line-requires-3
     add-k loop-less loop-again
-    (λ c. omega (arith, c .before .loop, c .loop-test, c .before .before .before .before .before .before .before .before .before .before .good, c .before .before .before .before .before .before .before .before .before .before .pre, c .before .before .before .before .before .before .before .least .ensures, c .before .before .before .before .before .before .before .before .before .before .fits, tested-short (c .before .before .before .before .before .before .before .before .before .before .args .b) (c .before .before .before .before .before .before .before .before .before .before .pre .0), c .before .loop .inv .0 .upto, c .before .loop .inv .0 .room, c .before .loop .inv .0 .same))
-    (λ c. omega (arith, c .before .loop, c .loop-test, c .before .before .before .before .before .before .before .before .before .before .good, c .before .before .before .before .before .before .before .before .before .before .pre, c .before .before .before .before .before .before .before .least .ensures, c .before .before .before .before .before .before .before .before .before .before .fits, tested-short (c .before .before .before .before .before .before .before .before .before .before .args .b) (c .before .before .before .before .before .before .before .before .before .before .pre .0), c .before .loop .inv .0 .upto, c .before .loop .inv .0 .room, c .before .loop .inv .0 .same))
+    (λ c. omega (arith, c .before .loop, c .loop-test, c .before .before .before .before .before .before .before .before .before .before .pre .1, c .before .before .before .before .before .before .before .least .ensures, c .before .before .before .before .before .before .before .before .before .before .fits, c .before .loop .inv .0 .upto, c .before .loop .inv .0 .room, c .before .loop .inv .0 .same))
+    (λ c. omega (arith, c .before .loop, c .loop-test, c .before .before .before .before .before .before .before .before .before .before .pre .1, c .before .before .before .before .before .before .before .least .ensures, c .before .before .before .before .before .before .before .before .before .before .fits, c .before .loop .inv .0 .upto, c .before .loop .inv .0 .room, c .before .loop .inv .0 .same))
     (λ c. c .before .loop .inv .0 .same)
     returns)

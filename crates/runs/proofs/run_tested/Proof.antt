@@ -1,15 +1,19 @@
 -- Each arm of the loop by what becomes of the event; the invariant is the run so far. Assumes nothing.
-use Prim.Native.Nat.{_+_, _≤_, _<_, _-_, _/_}
+use Prim.Native.Nat.{ℕ, _+_, _≤_, _<_, _-_, _/_}
+use mathlib.Core.List.{List}
 use mathlib.Core.Logic.{⊎-elim}
 use mathlib.Core.Path.{_≡_, refl, sym, ap, _∙_}
 use native.Mathlib.Omega.{arith}
 use borrow.Author.Needs.{needs}
 use lib.ListN.{length, getD, set}
 use Rattle.ground.proofs.Walks.{mapped-long}
+use Rattle.call.specs.declared.Call.{Call}
 use Rattle.call.specs.Record.{freeCall}
 use Rattle.call.proofs.Read.{unread, read-any}
 use Rattle.expiry.specs.Expiry.{never}
 use Rattle.sight.specs.declared.Seen.{Seen}
+use Rattle.station.specs.declared.Station.{Station}
+use Rattle.board.specs.declared.Board.{Board}
 use Rattle.board.specs.Board.{stepSoundBoard, within}
 use Rattle.board.proofs.Boards.{tested-short, within-small, within-near}
 use Rattle.board.proofs.Beside.{notes, boardNow, Beside, beside-start, beside-soon, beside-next, may-flip}
@@ -163,6 +167,15 @@ add-k c = omega (arith, c .before .before .before .before .before .before .befor
 loop-less : tie.Need-loop-less Inv-loop μ-loop
 loop-less c = omega (arith, c .before .before .before .before .before .before .before .before .before .before .loop, c .before .before .before .before .before .before .before .before .before .loop-test, c .before .before .before .before .before .before .before .before .before .before .before .before .before .before .before .before .before .good)
 
+-- what the arms give, over the joined values
+joined : (b : Board) (events : List ℕ) (n k : ℕ)
+    (calls : List Call) (s : Station) (free soon : ℕ) (dues held : List ℕ) (done refused : ℕ)
+    {calls′ : List Call} {s′ : Station} {free′ soon′ : ℕ} {dues′ held′ : List ℕ} {done′ refused′ : ℕ}
+    → calls′ ≡ calls → s′ ≡ s → free′ ≡ free → soon′ ≡ soon → dues′ ≡ dues → held′ ≡ held → done′ ≡ done → refused′ ≡ refused
+    → (k ≤ n) × Playing b events calls s (notes free soon dues held) done refused k × (s .limit < 256)
+    → (k ≤ n) × Playing b events calls′ s′ (notes free′ soon′ dues′ held′) done′ refused′ k × (s′ .limit < 256)
+joined b events n k calls s free soon dues held done refused c q f g d h a r w = rw (c, q, f, g, d, h, a, r) w
+
 loop-again : tie.Need-loop-again Inv-loop μ-loop
 loop-again c =
     let a = c .before .before .before .before .before .before .before .before .before .before .before .before .before .before .before .before .before in
@@ -185,19 +198,19 @@ loop-again c =
     ⊎-elim
     (λ y.
     let known = y .1 .given in
-    (more, rw (y .2, y .3, y .4, y .5, y .6, y .7, y .8, y .9) (playing-refused b (a .args .events .now) (v .calls) (v .s) d (v .done) (v .refused) (v .k) w e (ev .ensures) (known .0 .0) (turn-refused (boardNow b (v .s) (v .calls)) d e h (w .beside) late seen refl (pl .ensures) there (id .ensures) (t .result) (t .ensures) (known .0 .0) (known .1))), rw (y .3) (v .inv .2)))
+    joined b (a .args .events .now) (length (a .args .events .now) / 24) (v .k + 1) (v .calls) (v .s) (v .free) (v .soon) (v .dues) (v .held) (v .done) (v .refused + 1) (y .2) (y .3) (y .4) (y .5) (y .6) (y .7) (y .8) (y .9) (more, playing-refused b (a .args .events .now) (v .calls) (v .s) d (v .done) (v .refused) (v .k) w e (ev .ensures) (known .0 .0) (turn-refused (boardNow b (v .s) (v .calls)) d e h (w .beside) late seen refl (pl .ensures) there (id .ensures) (t .result) (t .ensures) (known .0 .0) (known .1)), v .inv .2))
     (⊎-elim
     (λ y.
     let known = y .1 .given in
     let soon = beside-soon (b .len) (v .calls) (v .free) (v .soon) (v .dues) (v .held) (w .beside) _ (e .time) (y .3 .ensures) in
-    (more, rw (y .6, y .7, y .8, y .9, y .10, y .11, y .12, y .13) (playing-far b (a .args .events .now) (v .calls) (v .s) d (v .done) (v .refused) (v .k) w e (ev .ensures) (notes (v .free) (y .3 .result) (v .dues) (v .held)) _ (y .4 .result) soon (rw (y .5 .ensures) (turn-far (boardNow b (v .s) (v .calls)) d e h (w .beside) late seen refl (pl .ensures) there (id .ensures) (t .result) (t .ensures) (y .4 .result) (known .1) (y .4 .ensures)))), rw (y .7, y .5 .ensures) (v .inv .2)))
+    joined b (a .args .events .now) (length (a .args .events .now) / 24) (v .k + 1) (v .calls) (y .5 .result) (v .free) (y .3 .result) (v .dues) (v .held) (v .done + 1) (v .refused) (y .6) (y .7) (y .8) (y .9) (y .10) (y .11) (y .12) (y .13) (more, playing-far b (a .args .events .now) (v .calls) (v .s) d (v .done) (v .refused) (v .k) w e (ev .ensures) (notes (v .free) (y .3 .result) (v .dues) (v .held)) _ (y .4 .result) soon (rw (y .5 .ensures) (turn-far (boardNow b (v .s) (v .calls)) d e h (w .beside) late seen refl (pl .ensures) there (id .ensures) (t .result) (t .ensures) (y .4 .result) (known .1) (y .4 .ensures))), rw (y .5 .ensures) (v .inv .2)))
     (λ y.
     let known = y .1 .given in
     let x = y .2 .result in
     let l = turn-there (boardNow b (v .s) (v .calls)) d e h (w .beside) late seen refl (pl .ensures) there (id .ensures) (t .result) (t .ensures) (known .1) in
     let i = near l in
     let kept = beside-next (b .len) (v .calls) (v .free) (v .soon) (v .dues) (v .held) h (w .beside) (wi .result) _ _ _ _ (x .call) (rw i l) (rw (read-any (v .calls) (wi .result) unread freeCall (omega (arith, l, i, w .beside .long, h))) at (y .4 .ensures)) (y .5 .ensures) (y .6 .ensures) (y .7 .ensures) in
-    (more, rw (y .9, y .10, y .11, y .12, y .13, y .14, y .15, y .16) (playing-done b (a .args .events .now) (v .calls) (v .s) d (v .done) (v .refused) (v .k) w e (ev .ensures) _ (wi .result) _ x kept (rw (y .8 .ensures, i) (turn-done (boardNow b (v .s) (v .calls)) d e h (w .beside) late seen refl (pl .ensures) there (id .ensures) (t .result) (t .ensures) x (known .1) (y .2 .ensures)))), rw (y .10, y .8 .ensures) (v .inv .2))))
+    joined b (a .args .events .now) (length (a .args .events .now) / 24) (v .k + 1) (set (v .calls) (wi .result) (x .call)) (y .8 .result) (y .4 .result) (y .6 .result) (set (v .dues) (wi .result) (y .5 .result)) (set (v .held) (wi .result) (y .7 .result)) (v .done + 1) (v .refused) (y .9) (y .10) (y .11) (y .12) (y .13) (y .14) (y .15) (y .16) (more, playing-done b (a .args .events .now) (v .calls) (v .s) d (v .done) (v .refused) (v .k) w e (ev .ensures) _ (wi .result) _ x kept (rw (y .8 .ensures, i) (turn-done (boardNow b (v .s) (v .calls)) d e h (w .beside) late seen refl (pl .ensures) there (id .ensures) (t .result) (t .ensures) x (known .1) (y .2 .ensures))), rw (y .8 .ensures) (v .inv .2))))
     (c .match .came)
 
 returns : tie.Need-returns Inv-loop μ-loop
