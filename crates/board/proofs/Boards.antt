@@ -24,7 +24,8 @@ use Rattle.station.specs.Table.{openIdentifiers, sound}
 use Rattle.station.specs.Step.{refused, answerOf}
 use Rattle.bounds.specs.Bounds.{inBounds}
 use Rattle.board.specs.declared.Board.{Board}
-use Rattle.board.specs.Board.{Stepped, tableOf, putBack, soundBoard, within}
+use Rattle.board.specs.Board.{tableOf, soundBoard, within}
+use Rattle.board.proofs.OneEvent.{Stepped, putBack}
 
 -- refused: the board stays
 abbrev pub refusedBoard : Board → ℕ → Stepped

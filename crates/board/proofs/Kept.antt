@@ -15,7 +15,8 @@ use Rattle.station.specs.Step.{step}
 use Rattle.station.proofs.Kept.{fresh-sound, step-sound}
 use Rattle.station.proofs.Places.{length-stays}
 use Rattle.board.specs.declared.Board.{Board}
-use Rattle.board.specs.Board.{startBoard, tableOf, soundBoard, stepBoard}
+use Rattle.board.specs.Board.{startBoard, tableOf, soundBoard}
+use Rattle.board.proofs.OneEvent.{stepBoard}
 use Rattle.board.proofs.Tables.{taken-again}
 
 pub start-sound : soundBoard startBoard ≡ true

@@ -1,3 +1,4 @@
+pub mod OneEvent
 pub mod Boards
 pub mod Found
 pub mod Sees

@@ -30,7 +30,8 @@ use Rattle.turn.specs.Turn.{turnOf, movedOf, outcomeOf, Sees}
 use Rattle.turn.proofs.Turns.{refused-number, done-there, done-doable}
 use Rattle.turn.proofs.Laws.{turn-steps}
 use Rattle.board.specs.declared.Board.{Board}
-use Rattle.board.specs.Board.{tableOf, putBack, soundBoard, stepBoard, stepSoundBoard}
+use Rattle.board.specs.Board.{tableOf, soundBoard}
+use Rattle.board.proofs.OneEvent.{putBack, stepBoard, stepSoundBoard}
 use Rattle.board.proofs.Boards.{refusedBoard, farBoard, doneBoard, back-refused, back-far, back-done}
 use Rattle.board.proofs.Sees.{sees-notes}
 use Rattle.board.proofs.Beside.{Beside}

@@ -10,7 +10,8 @@ use Rattle.call.specs.declared.Call.{Call}
 use Rattle.station.specs.declared.Station.{Station}
 use Rattle.station.specs.Step.{step}
 use Rattle.board.specs.declared.Board.{Board}
-use Rattle.board.specs.Board.{tableOf, boardWith, putBack, stepBoard}
+use Rattle.board.specs.Board.{tableOf, boardWith}
+use Rattle.board.proofs.OneEvent.{putBack, stepBoard}
 
 -- what was taken and changed is taken again, and the rest is what it was
 pub taken-again : {A : Type 0} (n : ℕ) (l x : List A) → length x ≡ length (take n l) → (take n (x ++ drop n l) ≡ x) × (drop n (x ++ drop n l) ≡ drop n l)

@@ -5,21 +5,13 @@ use mathlib.Core.List.{List, _++_}
 use lib.Dec.{ltb}
 use lib.ListN.{take, drop, replicate}
 use Rattle.ground.specs.Choice.{when_then_else_}
-use Rattle.event.specs.declared.Event.{Event}
 use Rattle.notice.specs.Notice.{marked}
 use Rattle.call.specs.declared.Call.{Call}
 use Rattle.call.specs.Record.{freeCall}
-use Rattle.station.specs.declared.Answer.{Answer}
 use Rattle.station.specs.declared.Station.{Station}
-use Rattle.station.specs.Station.{emptyAnswer, freshStation}
+use Rattle.station.specs.Station.{freshStation}
 use Rattle.station.specs.Table.{sound}
-use Rattle.station.specs.Step.{Outcome, step, stepOnSound}
 use Rattle.board.specs.declared.Board.{Board}
-
--- one event on a board, as the loops of the runs go (their proofs cite it): its answer, and the board after it
-pub record Stepped : Type 0 where
-  pub answer : Answer
-  pub board : Board
 
 -- what a panel starts with: "64 free records and a fresh station of limit 15"; "short form and `panelrun`: both set"
 abbrev pub startBoard : Board
@@ -33,20 +25,7 @@ tableOf b = take (b .len) (b .calls)
 abbrev pub boardWith : Board → Station → List Call → Board
 boardWith b s calls = record { station = s; len = b .len; calls = calls ++ drop (b .len) (b .calls) }
 
--- an outcome on that table, put back
-abbrev pub putBack : Board → Outcome → Stepped
-putBack b o = record { answer = o .answer; board = boardWith b (o .station) (o .calls) }
-
--- one event; 64 records are held at most: a longer length is "over 64 records", refused with 1
-abbrev pub stepBoard : Board → Event → Stepped
-stepBoard b e =
-    when ltb 64 (b .len) then record { answer = emptyAnswer 1; board = b } else
-    putBack b (step (b .station) (tableOf b) e)
-
--- one event where the table was found sound
-abbrev pub stepSoundBoard : Board → Event → Stepped
-stepSoundBoard b e = putBack b (stepOnSound (b .station) (tableOf b) e)
-
+-- the test behind number 1, of a board
 abbrev pub soundBoard : Board → Bool
 soundBoard b = not (ltb 64 (b .len)) && sound (b .station) (tableOf b)
 

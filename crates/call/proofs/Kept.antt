@@ -6,11 +6,11 @@ use mathlib.Core.Bool.{Bool, false, not, _&&_, _||_}
 use lib.Dec.{T, eqb, leb, leb→le, le→leb, T-not, not-T}
 use Rattle.ground.proofs.Bools.{and-l, and-r, and-i, nor-l, nor-r, not-not, when-has, trivial}
 use Rattle.event.specs.declared.Event.{Event}
-use Rattle.event.specs.Kinds.{ofIncoming, ofOutgoing, diverts, ends, releaseComplete, onLeg2}
+use Rattle.event.specs.Kinds.{ofIncoming, ofOutgoing, diverts, releaseComplete, onLeg2}
 use Rattle.event.specs.WellMade.{callMade}
 use Rattle.call.specs.declared.Call.{Call}
 use Rattle.call.specs.declared.Effect.{Effect}
-use Rattle.call.specs.Record.{isOutgoing, isIncoming, proceeding, active, requested, granted, divert, invoked, fits, freeCall}
+use Rattle.call.specs.Record.{isOutgoing, isIncoming, proceeding, active, requested, granted, invoked, fits, freeCall}
 use Rattle.call.specs.Soundness.{startHolds, soundCall}
 use Rattle.call.specs.State.{leaving, addressed, messageForbids, stateForbids}
 use Rattle.call.specs.Incoming.{idle, actIncoming}
@@ -18,7 +18,7 @@ use Rattle.call.specs.Outgoing.{messaged, actOutgoing}
 use Rattle.call.specs.Act.{ended, act}
 use Rattle.call.proofs.Denials.{denied}
 use Rattle.call.proofs.Sound.{Outgoing, Incoming, Sound, free, outgoing, incoming, outgoing-of, incoming-of, free-sound, outgoing-sound, incoming-sound, sound-view, unasked}
-use Rattle.call.proofs.Made.{Made, opensOutgoing, opensIncoming, opensDiverted, alerts, answers, divertsCall, results, rejects, legFails, clocks, endsOwn, invokes, informs, messages, farEnds, made}
+use Rattle.call.proofs.Made.{Made, opensOutgoing, opensIncoming, opensDiverted, alerts, answers, divertsCall, results, rejects, legFails, clocks, endsOwn, invokes, informs, messages, farEnds, made, with-kind, of-kind}
 use Rattle.call.proofs.KeptIncoming as inc
 use Rattle.call.proofs.KeptOutgoing as out
 
@@ -111,23 +111,27 @@ module _ (identifier : ℕ) (c : Call) (e : Event) (h : T (soundCall (e .time) c
       (λ l. left-outgoing (out.taken-over-kept e w (denied (onLeg2 e) (invoked c) q l)))
       (λ _. left-outgoing (out.first-leg-kept e w (not-T (active c) (λ t. T-not (releaseComplete e) r (denied (active c) (releaseComplete e) p t))))))
 
-  left : Made e → Leaves (e .time) identifier (diverts e) (act c e identifier)
+  -- shown of the event with its kind's number written out, where `act` is that kind's rule
+  abbrev Here : Event → Type 0
+  Here x = Leaves (e .time) identifier (diverts x) (act c x identifier)
+
+  left : Made e → Here e
   unfolding act actIncoming actOutgoing stateForbids
-  left (opensOutgoing k f) = rw k (left-outgoing (out.opened-kept e f))
-  left (opensIncoming k f) = rw k (left-incoming (rw k at (inc.opened-kept e k f)) tt)
-  left (opensDiverted k f) = rw k (left-incoming (rw k at (inc.opened-diverted-kept e k f)) tt)
+  left (opensOutgoing k f) = of-kind Here e k (left-outgoing (out.opened-kept e f))
+  left (opensIncoming k f) = of-kind Here e k (left-incoming (inc.opened-kept (with-kind 2 e) refl f) tt)
+  left (opensDiverted k f) = of-kind Here e k (left-incoming (inc.opened-diverted-kept (with-kind 3 e) refl f) tt)
   left (alerts k f) =
       let w = as-incoming (rw k tt) in
       let q = alerts-unheld c e k n w in
-      rw k (left-incoming (inc.alerted-kept w q) (nor-l (requested c) (granted c) q))
-  left (answers k f) = let r = inc.answered-kept e (as-incoming (rw k tt)) in rw k (left-incoming (r .sound) (r .unasked))
+      of-kind Here e k (left-incoming (inc.alerted-kept w q) (nor-l (requested c) (granted c) q))
+  left (answers k f) = let r = inc.answered-kept e (as-incoming (rw k tt)) in of-kind Here e k (left-incoming (r .sound) (r .unasked))
   left (divertsCall k f) =
       let m = rw k at n in
       let x : T (not (not (fits (e .reason) c) || (requested c || granted c))) = search nor-l depth 8 in
       let p : T (not (not (fits (e .reason) c))) = search nor-l in
       let q : T (not (requested c || granted c)) = search nor-r in
       let l : T (leb (e .reason) 3) = search (and-l, and-r) depth 12 in
-      rw k
+      of-kind Here e k
       (record {
         sound = λ z. incoming-sound (inc.diverted-kept e identifier z (as-incoming (rw k tt)) (not-not (fits (e .reason) c) p) l q);
         request = λ _. (tt, refl {a = identifier});
@@ -135,18 +139,18 @@ module _ (identifier : ℕ) (c : Call) (e : Event) (h : T (soundCall (e .time) c
   left (results k f) =
       let m = rw k at n in
       let p : T (not (not (requested c))) = search nor-l depth 8 in
-      rw k (left-incoming (inc.grant-kept (as-incoming (rw k tt)) (not-not (requested c) p)) tt)
-  left (rejects k f) = rw k (left-idle c (incoming (as-incoming (rw k tt))))
-  left (legFails k f) = rw k (left-idle c (incoming (as-incoming (rw k tt))))
-  left (clocks k f) = rw k (left-idle c (sound-view (e .time) c h))
-  left (endsOwn k f) = rw k (left-ended c)
-  left (invokes k f) = rw k (left-outgoing (out.rerouted-kept e (as-outgoing (rw k tt)) f))
+      of-kind Here e k (left-incoming (inc.grant-kept (as-incoming (rw k tt)) (not-not (requested c) p)) tt)
+  left (rejects k f) = of-kind Here e k (left-idle c (incoming (as-incoming (rw k tt))))
+  left (legFails k f) = of-kind Here e k (left-idle c (incoming (as-incoming (rw k tt))))
+  left (clocks k f) = of-kind Here e k (left-idle c (sound-view (e .time) c h))
+  left (endsOwn k f) = of-kind Here e k (left-ended c)
+  left (invokes k f) = of-kind Here e k (left-outgoing (out.rerouted-kept e (as-outgoing (rw k tt)) f))
   left (informs k f) =
       let m = rw k at n in
       let p : T (not (active c)) = search nor-l depth 8 in
-      rw k (left-outgoing (out.informed-kept e (as-outgoing (rw k tt)) f p))
-  left (messages k f) = rw k (messaged-left false k)
-  left (farEnds k f) = rw k left-free
+      of-kind Here e k (left-outgoing (out.informed-kept e (as-outgoing (rw k tt)) f p))
+  left (messages k f) = of-kind Here e k (messaged-left false k)
+  left (farEnds k f) = of-kind Here e k left-free
 
 -- "Each done event leaves a sound table": the record that the event acts on
 pub act-kept : (last identifier : ℕ) (c : Call) (e : Event) → T (not (eqb identifier 0)) → T (soundCall last c) → last ≤ e .time → T (callMade e)

@@ -1,6 +1,6 @@
 -- A well made event by the row of its kind. Assumes nothing.
 use Prim.Native.Nat.{ℕ}
-use mathlib.Core.Path.{_≡_}
+use mathlib.Core.Path.{_≡_, sym, subst}
 use mathlib.Core.Bool.{false}
 use lib.Dec.{T, eqb}
 use borrow.Author.Tests.{eqb-true}
@@ -49,3 +49,25 @@ made e h =
     kind-is e 14 (λ k. messages k (simp k at h)) (λ n14.
     kind-is e 15 (λ k. farEnds k (simp (k, or-false) at h)) (λ n15.
     absurd (simp (n1, n2, n3, n4, n5, n6, n7, n8, n9, n10, n11, n12, n13, n14, n15) at h))))))))))))))))
+
+-- an event with the number n for its kind: what is decided by the kind computes on it
+abbrev pub with-kind : ℕ → Event → Event
+with-kind n e = record {
+  kind = n;
+  call = e .call;
+  leg = e .leg;
+  message = e .message;
+  reason = e .reason;
+  option = e .option;
+  counter = e .counter;
+  flag = e .flag;
+  identifier = e .identifier;
+  first = e .first;
+  second = e .second;
+  third = e .third;
+  time = e .time;
+}
+
+-- what holds of it holds of an event of that kind
+pub of-kind : (P : Event → Type 0) (e : Event) {n : ℕ} → e .kind ≡ n → P (with-kind n e) → P e
+of-kind P e k = subst (λ n. P (with-kind n e)) (sym k)

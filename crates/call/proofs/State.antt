@@ -10,12 +10,12 @@ use Rattle.event.specs.Kinds.{cfnr, facility, releaseComplete, onLeg2, ofIncomi
 use Rattle.event.specs.WellMade.{callMade}
 use Rattle.waits.specs.Soundness.{waitsHold}
 use Rattle.call.specs.declared.Call.{Call}
-use Rattle.call.specs.Record.{Invoked, proceeding, received, delivered, active, invoked, requested, granted, fits}
+use Rattle.call.specs.Record.{proceeding, received, delivered, active, invoked, requested, granted, fits}
 use Rattle.call.specs.Soundness.{soundCall}
 use Rattle.call.specs.State.{leaving, grantedCfnr, messageForbids, stateForbids, addressed, NoneTakes, basicForbids}
 use Rattle.call.proofs.Denials.{denied, denied-first}
 use Rattle.call.proofs.Sound.{Outgoing, Incoming, outgoing-of, incoming-of}
-use Rattle.call.proofs.Made.{Made, opensOutgoing, opensIncoming, opensDiverted, alerts, answers, divertsCall, results, rejects, legFails, clocks, endsOwn, invokes, informs, messages, farEnds, made}
+use Rattle.call.proofs.Made.{Made, opensOutgoing, opensIncoming, opensDiverted, alerts, answers, divertsCall, results, rejects, legFails, clocks, endsOwn, invokes, informs, messages, farEnds, made, of-kind}
 use Rattle.call.proofs.Kept.{to-incoming, to-outgoing}
 
 ruleset denials = (nor-l, nor-r, nor-i, trivial)
@@ -54,48 +54,52 @@ module _ (last : ℕ) (c : Call) (e : Event) (h : T (soundCall last c)) (a : T (
   on-delivered : T (ofOutgoing e) → T (not (onLeg2 e && not (invoked c))) → T (onLeg2 e) → T (delivered c)
   on-delivered t q l = invoked-delivered (as-outgoing last c e h a t) (denied (onLeg2 e) (invoked c) q l)
 
-  taken-basic : Made e → T (not (basicForbids c e))
+  -- shown of the event with its kind's number written out, where the table is that kind's test
+  abbrev Open : Event → Type 0
+  Open x = T (not (basicForbids c x))
+
+  taken-basic : Made e → Open e
   unfolding stateForbids basicForbids
-  taken-basic (opensOutgoing k f) = rw k tt
-  taken-basic (opensIncoming k f) = rw k tt
-  taken-basic (opensDiverted k f) = rw k tt
+  taken-basic (opensOutgoing k f) = of-kind Open e k tt
+  taken-basic (opensIncoming k f) = of-kind Open e k tt
+  taken-basic (opensDiverted k f) = of-kind Open e k tt
   taken-basic (alerts k f) =
       let m = rw k at n in
       let x : T (not (not (proceeding c) || leaving c)) = search nor-l depth 8 in
-      rw k (search denials depth 8)
+      of-kind Open e k (search denials depth 8)
   taken-basic (answers k f) =
       let m = rw k at n in
       let x : T (not (active c || leaving c)) = search nor-l depth 8 in
-      rw k (search denials depth 8)
+      of-kind Open e k (search denials depth 8)
   taken-basic (divertsCall k f) =
       let m = rw k at n in
       let x : T (not (not (fits (e .reason) c) || (requested c || granted c))) = search nor-l depth 8 in
-      rw k (search denials depth 8)
+      of-kind Open e k (search denials depth 8)
   taken-basic (results k f) =
       let m = rw k at n in
       let r : T (not (not (requested c))) = search nor-l depth 8 in
-      rw (k, is-false (active c) (answered-by (rw k tt) r)) tt
+      of-kind Open e k (rw (is-false (active c) (answered-by (rw k tt) r)) tt)
   taken-basic (rejects k f) =
       let m = rw k at n in
       let r : T (not (not (requested c))) = search nor-l depth 8 in
-      rw (k, is-false (active c) (answered-by (rw k tt) r)) tt
+      of-kind Open e k (rw (is-false (active c) (answered-by (rw k tt) r)) tt)
   taken-basic (legFails k f) =
       let m = rw k at n in
       let g : T (not (not (grantedCfnr c))) = search in
       let p = granted-received (as-incoming last c e h a (rw k tt)) (not-not (grantedCfnr c) g) in
-      rw (k, eqb→eq (c .basic) 2 p) tt
-  taken-basic (clocks k f) = rw k tt
-  taken-basic (endsOwn k f) = rw k tt
+      of-kind Open e k (rw (eqb→eq (c .basic) 2 p) tt)
+  taken-basic (clocks k f) = of-kind Open e k tt
+  taken-basic (endsOwn k f) = of-kind Open e k tt
   taken-basic (invokes k f) =
       let m = rw k at n in
       let q : T (not (onLeg2 e && not (invoked c))) = search (nor-l, nor-r) depth 8 in
       by-cases (onLeg2 e)
-      (λ l. rw (k, l, eqb→eq (c .basic) 2 (on-delivered (rw k tt) q (from-true (onLeg2 e) l))) tt)
-      (λ l. rw (k, l) tt)
+      (λ l. of-kind Open e k (rw (l, eqb→eq (c .basic) 2 (on-delivered (rw k tt) q (from-true (onLeg2 e) l))) tt))
+      (λ l. of-kind Open e k (rw l tt))
   taken-basic (informs k f) =
       let m = rw k at n in
       let p : T (not (active c)) = search nor-l depth 8 in
-      rw k (search denials depth 8)
+      of-kind Open e k (search denials depth 8)
   taken-basic (messages k f) =
       let m : T (not (messageForbids c e)) = rw k at n in
       let q : T (not (onLeg2 e && not (invoked c))) = search (nor-l, nor-r) depth 8 in
@@ -105,9 +109,9 @@ module _ (last : ℕ) (c : Call) (e : Event) (h : T (soundCall last c)) (a : T (
       (λ l.
       let d = is-true (delivered c) (on-delivered (rw k tt) q (from-true (onLeg2 e) l)) in
       let z = is-false (facility e) (denied-first (facility e) (onLeg2 e) y (from-true (onLeg2 e) l)) in
-      rw (k, l, d, z) tt)
-      (λ l. rw (k, l) p)
-  taken-basic (farEnds k f) = rw k tt
+      of-kind Open e k (rw (l, d, z) tt))
+      (λ l. of-kind Open e k (rw l p))
+  taken-basic (farEnds k f) = of-kind Open e k tt
 
 -- so what the basic state forbids nothing takes
 pub basic-none : (last : ℕ) (c : Call) (e : Event) → T (callMade e) → T (addressed c e) → T (basicForbids c e) → NoneTakes last c e

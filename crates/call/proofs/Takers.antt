@@ -24,7 +24,7 @@ use Rattle.call.specs.Soundness.{divertHolds, soundOutgoing, soundCall}
 use Rattle.call.specs.State.{messageBasicForbids, stateForbids, addressed, Taker, NoneTakes, basicForbids, BasicExact, TakerExact}
 use Rattle.call.proofs.Denials.{denied-first, never}
 use Rattle.call.proofs.Sound.{Outgoing, Incoming, outgoing-sound, incoming-sound}
-use Rattle.call.proofs.Made.{Made, opensOutgoing, opensIncoming, opensDiverted, alerts, answers, divertsCall, results, rejects, legFails, clocks, endsOwn, invokes, informs, messages, farEnds, made}
+use Rattle.call.proofs.Made.{Made, opensOutgoing, opensIncoming, opensDiverted, alerts, answers, divertsCall, results, rejects, legFails, clocks, endsOwn, invokes, informs, messages, farEnds, made, of-kind}
 use Rattle.call.proofs.Kept.{to-incoming, to-outgoing}
 use Rattle.call.proofs.KeptIncoming.{from-zero}
 use Rattle.call.proofs.State.{as-incoming, as-outgoing, basic-none}
@@ -156,31 +156,35 @@ module _ (last : ℕ) (c : Call) (e : Event) (h : T (soundCall last c)) (a : T (
     takes = t;
   }
 
+  -- shown of the event with its kind's number written out, where the table is that kind's test
+  abbrev TakenBy : Call → Event → Type 0
+  TakenBy d x = T (not (stateForbids d x))
+
   pub taker-there : Made e → Taker last c e
   unfolding stateForbids basicForbids
-  taker-there (opensOutgoing k f) = itself (rw k tt)
-  taker-there (opensIncoming k f) = itself (rw k tt)
-  taker-there (opensDiverted k f) = itself (rw k tt)
+  taker-there (opensOutgoing k f) = itself (of-kind (TakenBy c) e k tt)
+  taker-there (opensIncoming k f) = itself (of-kind (TakenBy c) e k tt)
+  taker-there (opensDiverted k f) = itself (of-kind (TakenBy c) e k tt)
   taker-there (alerts k f) =
       let m = rw k at n in
       let p : T (not (not (proceeding c))) = search nor-l depth 8 in
-      quiet (rw k tt) (rw (k, is-true (proceeding c) (not-not (proceeding c) p)) tt)
+      quiet (rw k tt) (of-kind (TakenBy (quietIn (c .basic))) e k (rw (is-true (proceeding c) (not-not (proceeding c) p)) tt))
   taker-there (answers k f) =
       let m = rw k at n in
       let p : T (not (active c)) = search nor-l depth 8 in
-      quiet (rw k tt) (rw (k, is-false (active c) p) tt)
+      quiet (rw k tt) (of-kind (TakenBy (quietIn (c .basic))) e k (rw (is-false (active c) p) tt))
   taker-there (divertsCall k f) =
       let m = rw k at n in
       let p : T (not (not (fits (e .reason) c))) = search nor-l depth 8 in
-      quiet (rw k tt) (rw (k, is-true (fits (e .reason) c) (not-not (fits (e .reason) c) p)) tt)
+      quiet (rw k tt) (of-kind (TakenBy (quietIn (c .basic))) e k (rw (is-true (fits (e .reason) c) (not-not (fits (e .reason) c) p)) tt))
   taker-there (results k f) =
       let m = rw k at n in
       let p : T (not (active c)) = search nor-l depth 8 in
-      asked (rw k tt) p (rw k tt) (rw k tt)
+      asked (rw k tt) p (of-kind (TakenBy proceedingAsked) e k tt) (of-kind (TakenBy receivedAsked) e k tt)
   taker-there (rejects k f) =
       let m = rw k at n in
       let p : T (not (active c)) = search nor-l depth 8 in
-      asked (rw k tt) p (rw k tt) (rw k tt)
+      asked (rw k tt) p (of-kind (TakenBy proceedingAsked) e k tt) (of-kind (TakenBy receivedAsked) e k tt)
   taker-there (legFails k f) =
       let m = rw k at n in
       let p : T (not (not (received c))) = search in
@@ -189,16 +193,16 @@ module _ (last : ℕ) (c : Call) (e : Event) (h : T (soundCall last c)) (a : T (
         sound = received-granted-sound last;
         direction = sym (eqb→eq (c .direction) 2 (to-incoming c e a (rw k tt)));
         basic = sym (eqb→eq (c .basic) 2 (not-not (received c) p));
-        takes = rw k tt;
+        takes = of-kind (TakenBy receivedGranted) e k tt;
       }
-  taker-there (clocks k f) = itself (rw k tt)
-  taker-there (endsOwn k f) = itself (rw k tt)
+  taker-there (clocks k f) = itself (of-kind (TakenBy c) e k tt)
+  taker-there (endsOwn k f) = itself (of-kind (TakenBy c) e k tt)
   taker-there (invokes k f) =
       let m = rw k at n in
       let p : T (not (onLeg2 e && not (delivered c))) = search (nor-l, nor-r) depth 8 in
       by-cases (onLeg2 e)
-      (λ l. on-leg-2 (rw k tt) (not-not (delivered c) (rw l at p)) (rw (k, l) tt))
-      (λ l. itself (rw (k, l) tt))
+      (λ l. on-leg-2 (rw k tt) (not-not (delivered c) (rw l at p)) (of-kind (TakenBy withLeg2) e k (rw l tt)))
+      (λ l. itself (of-kind (TakenBy c) e k (rw l tt)))
   taker-there (informs k f) = itself (rw k (rw k at n))
   taker-there (messages k f) =
       let m : T (not (messageBasicForbids c e)) = rw k at n in
@@ -206,14 +210,14 @@ module _ (last : ℕ) (c : Call) (e : Event) (h : T (soundCall last c)) (a : T (
       let m2 : T (not (facility e || not (delivered c))) = rw l at m in
       let y : T (not (facility e)) = search nor-l in
       let d : T (not (not (delivered c))) = search nor-r in
-      on-leg-2 (rw k tt) (not-not (delivered c) d) (rw (k, l, is-false (facility e) y) tt)) (λ l.
+      on-leg-2 (rw k tt) (not-not (delivered c) d) (of-kind (TakenBy withLeg2) e k (rw (l, is-false (facility e) y) tt))) (λ l.
       by-cases (releaseComplete e)
-      (λ r. itself (rw (k, l, eqb→eq (e .message) 4 (from-true (releaseComplete e) r)) (never (active c))))
+      (λ r. itself (of-kind (TakenBy c) e k (rw (l, eqb→eq (e .message) 4 (from-true (releaseComplete e) r)) (never (active c)))))
       (λ r.
       let i : T (not (active c && true)) = rw (l, r) at m in
       let p = denied-first (active c) true i tt in
-      told (rw k tt) p (rw (k, l, is-false (active c) p, and-false (facility e)) tt)))
-  taker-there (farEnds k f) = itself (rw k tt)
+      told (rw k tt) p (of-kind (TakenBy (toldIn (c .basic))) e k (rw (l, is-false (active c) p, and-false (facility e)) tt))))
+  taker-there (farEnds k f) = itself (of-kind (TakenBy c) e k tt)
 
 -- kinds 16 to 31 name no call: any record takes them, as far as its state goes
 pub far-takes : (c : Call) (e : Event) → T (ofRemote e) → T (not (stateForbids c e)) × T (not (basicForbids c e))

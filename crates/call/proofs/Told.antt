@@ -31,7 +31,7 @@ use Rattle.call.specs.Act.{act}
 use Rattle.call.specs.Told.{dli3Of, latestFirst, carriesOver, waitingOf, messageTells, tells, Remembers, Learns, TellsOf}
 use Rattle.call.proofs.Denials.{denied, denied-first}
 use Rattle.call.proofs.Sound.{Outgoing, outgoing-of, free-of}
-use Rattle.call.proofs.Made.{Made, opensOutgoing, opensIncoming, opensDiverted, alerts, answers, divertsCall, results, rejects, legFails, clocks, endsOwn, invokes, informs, messages, farEnds, made}
+use Rattle.call.proofs.Made.{Made, opensOutgoing, opensIncoming, opensDiverted, alerts, answers, divertsCall, results, rejects, legFails, clocks, endsOwn, invokes, informs, messages, farEnds, made, of-kind}
 use Rattle.call.proofs.Kept.{to-outgoing, act-kept}
 use Rattle.call.proofs.Heard.{Heard, Ranged, none-told, learns-none, diverted-seen, heard-dli1, Flagged, flagged, heard-message, heard-waits, heard-both}
 use Rattle.call.proofs.Waits.{alerts-or-connects, act-waits, act-goes}
@@ -68,6 +68,11 @@ quiet {l} m = record { learns = learns-none l; kept = λ _. m }
 freed : {l : List Told} {opening : Bool} {sent : Sent} {identifier counter : ℕ}
     → Hears l [] opening (record { call = freeCall; sent = sent; notice = noNotice; number = noNumber; identifier = identifier; counter = counter })
 freed {l} {opening} = record { learns = learns-none l; kept = λ n. absurd (nor-r opening true n) }
+
+-- an open: its record's list begins
+begun : {l : List Told} {c : Call} {sent : Sent} {identifier counter : ℕ}
+    → Hears l [] true (record { call = c; sent = sent; notice = noNotice; number = noNumber; identifier = identifier; counter = counter })
+begun {l} = record { learns = learns-none l; kept = λ n. absurd n }
 
 module _ {l : List Told} (c : Call) (e : Event) (m : Remembers l (c .history)) (w : Outgoing c) where
   -- "CDO is Divert exactly when a DLI1 was seen"
@@ -160,91 +165,46 @@ module _ (last identifier : ℕ) (l : List Told) (c : Call) (e : Event) (h : T (
   as-outgoing : T (ofOutgoing e) → Outgoing c
   as-outgoing t = outgoing-of last c h (to-outgoing c e a t)
 
-  abbrev Here : Type 0
-  Here = Hears l (tells (dli1s (c .waiting)) c e) (opens e) (act c e identifier)
+  -- shown of the event with its kind's number written out, where `act` is that kind's rule
+  abbrev Here : Event → Type 0
+  Here x = Hears l (tells (dli1s (c .waiting)) c x) (opens x) (act c x identifier)
 
-  -- a lemma for each kind: as clauses of one function, which opens `act` for all of them, they take three times as long to check
-  opened : e .kind ≡ 1 → Here
-  unfolding act tells
-  opened k = rw k (record { learns = learns-none l; kept = λ z. absurd z })
-
-  opened-incoming : e .kind ≡ 2 → Here
-  unfolding act tells
-  opened-incoming k = rw k (record { learns = learns-none l; kept = λ z. absurd z })
-
-  opened-diverted : e .kind ≡ 3 → Here
-  unfolding act tells
-  opened-diverted k = rw k (record { learns = learns-none l; kept = λ z. absurd z })
-
-  alerted-here : e .kind ≡ 4 → Here
-  unfolding act actIncoming tells
-  alerted-here k = rw k (quiet m)
-
-  answered-here : e .kind ≡ 5 → Here
-  unfolding act actIncoming tells
-  answered-here k = rw k (when-has (Hears l [] false) (wait c) (λ _. quiet m) (λ _. quiet m))
-
-  diverted-here : e .kind ≡ 6 → Here
-  unfolding act actIncoming tells
-  diverted-here k = rw k (quiet m)
-
-  granted-here : e .kind ≡ 7 → Here
-  unfolding act actIncoming tells
-  granted-here k = rw k (quiet m)
-
-  rejected-here : e .kind ≡ 8 → Here
-  unfolding act actIncoming tells
-  rejected-here k = rw k (quiet m)
-
-  failed-here : e .kind ≡ 9 → Here
-  unfolding act actIncoming tells
-  failed-here k = rw k (quiet m)
-
-  expired-here : e .kind ≡ 10 → Here
-  unfolding act actIncoming tells
-  expired-here k = rw k (quiet m)
-
-  ended-here : e .kind ≡ 11 → Here
-  unfolding act actIncoming actOutgoing tells
-  ended-here k = rw k (when-has (Hears l [] false) (invoked c) (λ _. freed) (λ _. freed))
-
-  rerouted-here : e .kind ≡ 12 → T (reroutingFields e) → Here
+  rerouted-here : e .kind ≡ 12 → T (reroutingFields e) → Here e
   unfolding act actOutgoing tells
-  rerouted-here k f = rw k (rerouted-hears c e m (as-outgoing (rw k tt)) f)
+  rerouted-here k f = of-kind Here e k (rerouted-hears c e m (as-outgoing (rw k tt)) f)
 
-  informed-here : e .kind ≡ 13 → T (dli1Fields e) → Here
+  informed-here : e .kind ≡ 13 → T (dli1Fields e) → Here e
   unfolding act actOutgoing tells
   informed-here k f =
       let d : Ranged (dli1Of e) = search (and-l, and-r) depth 12 in
       let x = heard-dli1 m (dli1Of e) d in
-      rw k (record { learns = x .learns; kept = λ _. x .remembers })
+      of-kind Here e k (record { learns = x .learns; kept = λ _. x .remembers })
 
-  messaged-here : e .kind ≡ 14 → T (messageFields e) → Here
+  messaged-here : e .kind ≡ 14 → T (messageFields e) → Here e
   unfolding act actOutgoing tells stateForbids
   messaged-here k f =
       let u : T (not (messageForbids c e)) = rw k at n in
-      rw k (messaged-hears c e m (as-outgoing (rw k tt)) f (search (nor-l, nor-r) depth 8) (search (nor-l, nor-r) depth 8))
+      let p : T (not (facility e && onLeg2 e)) = search (nor-l, nor-r) depth 8 in
+      let q : T (not (onLeg2 e && not (invoked c))) = search (nor-l, nor-r) depth 8 in
+      of-kind Here e k (messaged-hears c e m (as-outgoing (rw k tt)) f p q)
 
-  far-ended-here : e .kind ≡ 15 → Here
+  hears : Made e → Here e
   unfolding act actIncoming tells
-  far-ended-here k = rw k freed
-
-  hears : Made e → Here
-  hears (opensOutgoing k f) = opened k
-  hears (opensIncoming k f) = opened-incoming k
-  hears (opensDiverted k f) = opened-diverted k
-  hears (alerts k f) = alerted-here k
-  hears (answers k f) = answered-here k
-  hears (divertsCall k f) = diverted-here k
-  hears (results k f) = granted-here k
-  hears (rejects k f) = rejected-here k
-  hears (legFails k f) = failed-here k
-  hears (clocks k f) = expired-here k
-  hears (endsOwn k f) = ended-here k
+  hears (opensOutgoing k f) = of-kind Here e k begun
+  hears (opensIncoming k f) = of-kind Here e k begun
+  hears (opensDiverted k f) = of-kind Here e k begun
+  hears (alerts k f) = of-kind Here e k (quiet m)
+  hears (answers k f) = of-kind Here e k (when-has (Hears l [] false) (wait c) (λ _. quiet m) (λ _. quiet m))
+  hears (divertsCall k f) = of-kind Here e k (quiet m)
+  hears (results k f) = of-kind Here e k (quiet m)
+  hears (rejects k f) = of-kind Here e k (quiet m)
+  hears (legFails k f) = of-kind Here e k (quiet m)
+  hears (clocks k f) = of-kind Here e k (quiet m)
+  hears (endsOwn k f) = of-kind Here e k (when-has (Hears l [] false) (invoked c) (λ _. freed) (λ _. freed))
   hears (invokes k f) = rerouted-here k f
   hears (informs k f) = informed-here k f
   hears (messages k f) = messaged-here k f
-  hears (farEnds k f) = far-ended-here k
+  hears (farEnds k f) = of-kind Here e k freed
 
 -- an open starts with no history
 open-history : (identifier : ℕ) (c : Call) (e : Event) → T (opens e) → act c e identifier .call .history ≡ noHistory

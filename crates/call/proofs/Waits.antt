@@ -1,7 +1,7 @@
 -- What waits with leg 2 is what was accepted since Invoked began, in order, by the events alone; what is sent goes by it. Assumes nothing.
 use Prim.Native.Nat.{ℕ, zero, suc}
-use mathlib.Core.Path.{_≡_, refl, ap, _∙_}
-use mathlib.Core.Bool.{true, false, not, _&&_, _||_}
+use mathlib.Core.Path.{_≡_, refl, sym, ap, _∙_}
+use mathlib.Core.Bool.{true, false, not, _&&_, _||_, false≢true}
 use mathlib.Core.List.{List, [], _∷_, _++_}
 use native.Mathlib.Omega.{arith}
 use lib.Dec.{T, eqb, leb, eqb→eq, leb→le}
@@ -30,14 +30,7 @@ use Rattle.call.specs.Told.{waitingOf, joins, acceptedAfter, handsOver, 
 use Rattle.call.proofs.Denials.{denied, denied-first}
 use Rattle.call.proofs.Sound.{Outgoing, outgoing-of}
 use Rattle.call.proofs.Kept.{to-outgoing}
-use Rattle.call.proofs.Made.{Made, opensOutgoing, opensIncoming, opensDiverted, alerts, answers, divertsCall, results, rejects, legFails, clocks, endsOwn, invokes, informs, messages, farEnds}
-
--- an effect that leaves what waits, and one that ends it
-abbrev Stays : Call → Call → Type 0
-Stays c d = waitingOf d ≡ waitingOf c
-
-abbrev None : Call → Type 0
-None d = waitingOf d ≡ []
+use Rattle.call.proofs.Made.{Made, opensOutgoing, opensIncoming, opensDiverted, alerts, answers, divertsCall, results, rejects, legFails, clocks, endsOwn, invokes, informs, messages, farEnds, with-kind, of-kind}
 
 -- what a message does to the state leaves what waits
 message-has : (P : List Dli1 → Type 0) (e : Event) (d : Call) → P (waitingOf d) → P (waitingOf (afterMessage e d))
@@ -186,68 +179,75 @@ module _ (c : Call) (e : Event) (w : Outgoing c) where
       (λ i. absurd (rw (k, is-true (onLeg2 e) t, i, and-false (alerting e || connect e)) at h)))
       (λ t. absurd (rw (k, is-false (onLeg2 e) t, is-false (releaseComplete e) r) at h)))
 
--- an event that neither is an invoke nor hands over
-elsewhere : {accepted : List Dli1} {c d : Call} {e : Event} {sent : Sent} → joins accepted c e ≡ false → (e .kind ≡ 12 → ⊥) → handsOver c e ≡ false
+-- an event that neither is an invoke nor hands over, by its kind
+elsewhere : {accepted : List Dli1} {c d : Call} {e : Event} {sent : Sent} {n : ℕ} → e .kind ≡ n → eqb n 12 ≡ false → eqb n 14 ≡ false
     → GoesBy accepted c e sent d
-elsewhere j k h = record { accepts = λ i t. absurd (rw j at t); denies = λ i q. absurd (k q); party = λ t. absurd (rw h at t) }
+elsewhere {e = e} k p q =
+    let i : eqb (e .kind) 12 ≡ false = rw k p in
+    let m : eqb (e .kind) 14 ≡ false = rw k q in
+    record { accepts = λ _ t. absurd (rw i at t); denies = λ _ z. absurd (false≢true (sym (rw z at i))); party = λ t. absurd (rw m at t) }
 
 module _ (last identifier : ℕ) (c : Call) (e : Event) (h : T (soundCall last c)) (a : T (addressed c e)) (n : T (not (stateForbids c e))) where
   outgoing-here : T (ofOutgoing e) → Outgoing c
   outgoing-here t = outgoing-of last c h (to-outgoing c e a t)
 
-  waits : Made e → waitingOf (act c e identifier .call) ≡ acceptedAfter (waitingOf c) c e
+  -- shown of the event with its kind's number written out, where `act` is that kind's rule
+  abbrev Waits : Event → Type 0
+  Waits x = waitingOf (act c x identifier .call) ≡ acceptedAfter (waitingOf c) c x
+
+  waits : Made e → Waits e
   unfolding act actIncoming actOutgoing stateForbids
-  waits (opensOutgoing k f) = rw k refl
-  waits (opensIncoming k f) = rw k refl
-  waits (opensDiverted k f) = rw k refl
-  waits (alerts k f) = rw k refl
-  waits (answers k f) = rw k (when-has (λ (x : Effect). waitingOf (x .call) ≡ waitingOf c) (wait c) (λ _. refl) (λ _. refl))
-  waits (divertsCall k f) = rw k refl
-  waits (results k f) = rw k refl
-  waits (rejects k f) = rw k refl
-  waits (legFails k f) = rw k refl
-  waits (clocks k f) = rw k refl
-  waits (endsOwn k f) = rw k (when-has (λ (x : Effect). waitingOf (x .call) ≡ []) (invoked c) (λ _. refl) (λ _. refl))
-  waits (invokes k f) = rw k (rw k at (rerouted-waits c e (outgoing-here (rw k tt)) k))
-  waits (informs k f) = rw k refl
+  waits (opensOutgoing k f) = of-kind Waits e k refl
+  waits (opensIncoming k f) = of-kind Waits e k refl
+  waits (opensDiverted k f) = of-kind Waits e k refl
+  waits (alerts k f) = of-kind Waits e k refl
+  waits (answers k f) = of-kind Waits e k (when-has (λ (x : Effect). waitingOf (x .call) ≡ waitingOf c) (wait c) (λ _. refl) (λ _. refl))
+  waits (divertsCall k f) = of-kind Waits e k refl
+  waits (results k f) = of-kind Waits e k refl
+  waits (rejects k f) = of-kind Waits e k refl
+  waits (legFails k f) = of-kind Waits e k refl
+  waits (clocks k f) = of-kind Waits e k refl
+  waits (endsOwn k f) = of-kind Waits e k (when-has (λ (x : Effect). waitingOf (x .call) ≡ []) (invoked c) (λ _. refl) (λ _. refl))
+  waits (invokes k f) = of-kind Waits e k (rerouted-waits c (with-kind 12 e) (outgoing-here (rw k tt)) refl)
+  waits (informs k f) = of-kind Waits e k refl
   waits (messages k f) =
       let u : T (not (messageForbids c e)) = rw k at n in
       let q : T (not (onLeg2 e && not (invoked c))) = search (nor-l, nor-r) depth 8 in
+      let o : T (not (facility e && onLeg2 e)) = search (nor-l, nor-r) depth 8 in
       let low : T (leb 1 (e .message)) = search (and-l, and-r) depth 16 in
       let high : T (leb (e .message) 4) = search (and-l, and-r) depth 16 in
-      rw k (rw k at (messaged-waits c e (outgoing-here (rw k tt)) k (search (nor-l, nor-r) depth 8) low high (denied (onLeg2 e) (invoked c) q)))
-  waits (farEnds k f) = rw k refl
+      of-kind Waits e k (messaged-waits c (with-kind 14 e) (outgoing-here (rw k tt)) refl o low high (denied (onLeg2 e) (invoked c) q))
+  waits (farEnds k f) = of-kind Waits e k refl
 
-  -- by its kind an event is one rule's
-  invoke-acts : e .kind ≡ 12 → act c e identifier ≡ rerouted c e
-  unfolding act actIncoming actOutgoing
-  invoke-acts k = rw k refl
+  abbrev Goes : Event → Type 0
+  Goes x = GoesBy (waitingOf c) c x (act c x identifier .sent) (act c x identifier .call)
 
-  message-acts : e .kind ≡ 14 → act c e identifier ≡ messaged c e
-  unfolding act actIncoming actOutgoing
-  message-acts k = rw k refl
+  invoke-goes : e .kind ≡ 12 → Goes e
+  unfolding act actOutgoing
+  invoke-goes k = of-kind Goes e k (rerouted-goes c (with-kind 12 e) (outgoing-here (rw k tt)) refl)
 
-  goes : Made e → GoesBy (waitingOf c) c e (act c e identifier .sent) (act c e identifier .call)
-  goes (opensOutgoing k f) = elsewhere (rw k refl) (λ q. omega (arith, k, q)) (rw k refl)
-  goes (opensIncoming k f) = elsewhere (rw k refl) (λ q. omega (arith, k, q)) (rw k refl)
-  goes (opensDiverted k f) = elsewhere (rw k refl) (λ q. omega (arith, k, q)) (rw k refl)
-  goes (alerts k f) = elsewhere (rw k refl) (λ q. omega (arith, k, q)) (rw k refl)
-  goes (answers k f) = elsewhere (rw k refl) (λ q. omega (arith, k, q)) (rw k refl)
-  goes (divertsCall k f) = elsewhere (rw k refl) (λ q. omega (arith, k, q)) (rw k refl)
-  goes (results k f) = elsewhere (rw k refl) (λ q. omega (arith, k, q)) (rw k refl)
-  goes (rejects k f) = elsewhere (rw k refl) (λ q. omega (arith, k, q)) (rw k refl)
-  goes (legFails k f) = elsewhere (rw k refl) (λ q. omega (arith, k, q)) (rw k refl)
-  goes (clocks k f) = elsewhere (rw k refl) (λ q. omega (arith, k, q)) (rw k refl)
-  goes (endsOwn k f) = elsewhere (rw k refl) (λ q. omega (arith, k, q)) (rw k refl)
-  goes (invokes k f) = rw (invoke-acts k) (rerouted-goes c e (outgoing-here (rw k tt)) k)
-  goes (informs k f) = elsewhere (rw k refl) (λ q. omega (arith, k, q)) (rw k refl)
-  goes (messages k f) =
-      rw (message-acts k) (record {
-        accepts = λ i j. absurd (rw k at j);
-        denies = λ i z. absurd (omega (arith, k, z));
-        party = messaged-party c e (outgoing-here (rw k tt)) k;
-      })
-  goes (farEnds k f) = elsewhere (rw k refl) (λ q. omega (arith, k, q)) (rw k refl)
+  message-goes : e .kind ≡ 14 → Goes e
+  unfolding act actOutgoing
+  message-goes k =
+      let p = messaged-party c (with-kind 14 e) (outgoing-here (rw k tt)) refl in
+      of-kind Goes e k (record { accepts = λ _ j. absurd j; denies = λ _ z. absurd (omega (arith, z)); party = p })
+
+  goes : Made e → Goes e
+  goes (opensOutgoing k f) = elsewhere k refl refl
+  goes (opensIncoming k f) = elsewhere k refl refl
+  goes (opensDiverted k f) = elsewhere k refl refl
+  goes (alerts k f) = elsewhere k refl refl
+  goes (answers k f) = elsewhere k refl refl
+  goes (divertsCall k f) = elsewhere k refl refl
+  goes (results k f) = elsewhere k refl refl
+  goes (rejects k f) = elsewhere k refl refl
+  goes (legFails k f) = elsewhere k refl refl
+  goes (clocks k f) = elsewhere k refl refl
+  goes (endsOwn k f) = elsewhere k refl refl
+  goes (invokes k f) = invoke-goes k
+  goes (informs k f) = elsewhere k refl refl
+  goes (messages k f) = message-goes k
+  goes (farEnds k f) = elsewhere k refl refl
 
 pub act-waits : (last identifier : ℕ) (accepted : List Dli1) (c : Call) (e : Event) → T (soundCall last c) → T (addressed c e) → T (not (stateForbids c e)) → Made e
     → waitingOf c ≡ accepted → waitingOf (act c e identifier .call) ≡ acceptedAfter accepted c e

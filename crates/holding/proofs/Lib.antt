@@ -1,1 +1,1 @@
-mod Idle
+pub mod Idle

@@ -1,11 +1,12 @@
 // "14: .." what a message on a leg of an outgoing call does.
 ghost use mathlib.Core.Path.{_≡_};
-ghost use mathlib.Core.Bool.{_&&_};
+ghost use mathlib.Core.Bool.{_&&_, not};
 ghost use Rattle.ground.specs.Choice.{when_then_else_};
-ghost use Rattle.event.specs.Kinds.{connect};
-ghost use Rattle.call.specs.Record.{invoked};
-ghost use Rattle.call.specs.Messages.{legFailedOn, releaseOn, one, nothing, sending};
-ghost use Rattle.call.specs.Outgoing.{handOver, cdrIdle, movedOver, withDli3, numberFor, afterMessage, takenOver, onFirstLeg, leg2Remains, released, messaged};
+ghost use Rattle.event.specs.Kinds.{connect, releaseComplete, onLeg2};
+ghost use Rattle.call.specs.Record.{invoked, freeCall, forwardedParty};
+ghost use Rattle.call.specs.Fields.{party-is};
+ghost use Rattle.call.specs.Messages.{legFailedOn, releaseOn, one, nothing, sending, silent};
+ghost use Rattle.call.specs.Outgoing.{handOver, cdrIdle, toCdo, withDli3, numberFor, afterMessage, takenOver, onFirstLeg, leg2Remains, messaged};
 use call::Call;
 use call::Effect;
 use call::Sent;
@@ -32,11 +33,10 @@ fn cdr_idle(c: Call) -> Call
     d
 }
 
-// "leg 2 becomes leg 1, CDR Idle, DLI1 to the CDO"
-fn moved_over(c: Call) -> Call
-    ensures { λ r. ⌜ r ≡ movedOver c ⌝ }
+// "leg 2 becomes leg 1, CDR Idle, DLI1 to the CDO", which has taken what waits.
+fn moved_over(noticed: Noticed, c: Call) -> Call
+    ensures { λ r. ⌜ r ≡ cdrIdle (party-is (forwardedParty c) (toCdo noticed c)) ⌝ }
 {
-    let noticed = hand_over(c);
     let waiting = c.waiting;
     let party = queue::last_number(waiting);
     let mut d = outgoing::to_cdo(noticed, c);
@@ -90,13 +90,39 @@ fn after_message(e: Event, c: Call) -> Call
     d
 }
 
-// "In Invoked, ALERTING or CONNECT on leg 2: RELEASE COMPLETE on leg 1, leg 2 becomes leg 1, CDR Idle, DLI1 to the CDO,
-// then a DLI3."
+// "when leg 2 alerts, connects, or is left alone by a release of leg 1"
+fn leg2_goes_on(c: Call, e: Event) -> bool
+    ensures { λ r. ⌜ r ≡ (when releaseComplete e then not (onLeg2 e) && invoked c else onLeg2 e) ⌝ }
+{
+    let second = e.leg == 2;
+    if e.message == 4 {
+        !second & (c.cdr == 1)
+    } else {
+        second
+    }
+}
+
+// "In Invoked, ALERTING or CONNECT on leg 2: RELEASE COMPLETE on leg 1, leg 2 becomes leg 1, CDR Idle, DLI1 to the CDO, then a DLI3."
+// "RELEASE on leg 1: leg 2 becomes leg 1, Proceeding, CDR Idle, DLI1 to the CDO (ours)." What waits is handed over here alone: the compiler
+// puts that in where it is called once.
 fn taken_over(c: Call, e: Event) -> Effect
-    ensures { λ r. ⌜ r ≡ takenOver c e ⌝ }
+    ensures { λ r. ⌜ r ≡ (when releaseComplete e then leg2Remains c else takenOver c e) ⌝ }
 {
     let noticed = hand_over(c);
-    let moved = moved_over(c);
+    let moved = moved_over(noticed, c);
+    if e.message == 4 {
+        let mut d = moved;
+        d.basic = 1;
+        let nothing = blank::no_messages();
+        return Effect {
+            call: d,
+            sent: nothing,
+            notice: noticed.notice,
+            number: 0,
+            identifier: message::NO_IDENTIFIER,
+            counter: 0,
+        };
+    }
     let number = number_for(moved, e);
     let heard = with_dli3(moved, e);
     let d = after_message(e, heard);
@@ -149,24 +175,6 @@ fn on_first_leg(c: Call, e: Event) -> Effect
     }
 }
 
-// "RELEASE on leg 1: leg 2 becomes leg 1, Proceeding, CDR Idle, DLI1 to the CDO (ours)."
-fn leg2_remains(c: Call) -> Effect
-    ensures { λ r. ⌜ r ≡ leg2Remains c ⌝ }
-{
-    let noticed = hand_over(c);
-    let mut d = moved_over(c);
-    d.basic = 1;
-    let nothing = blank::no_messages();
-    Effect {
-        call: d,
-        sent: nothing,
-        notice: noticed.notice,
-        number: 0,
-        identifier: message::NO_IDENTIFIER,
-        counter: 0,
-    }
-}
-
 // "RELEASE on leg 2: cfnrDivertedLegFailed on leg 1, CDR Idle."
 fn leg_failed(c: Call) -> Effect
     ensures { λ r. ⌜ r ≡ sending (cdrIdle c) (one (legFailedOn 1)) ⌝ }
@@ -179,12 +187,10 @@ fn leg_failed(c: Call) -> Effect
 
 // "RELEASE on leg 1 in CDR Idle frees the record."
 fn released(c: Call, e: Event) -> Effect
-    ensures { λ r. ⌜ r ≡ released c e ⌝ }
+    ensures { λ r. ⌜ r ≡ (when onLeg2 e then sending (cdrIdle c) (one (legFailedOn 1)) else silent freeCall) ⌝ }
 {
     if e.leg == 2 {
         leg_failed(c)
-    } else if c.cdr == 1 {
-        leg2_remains(c)
     } else {
         message::freed()
     }
@@ -194,10 +200,10 @@ fn released(c: Call, e: Event) -> Effect
 pub fn messaged(c: Call, e: Event) -> Effect
     ensures { λ r. ⌜ r ≡ messaged c e ⌝ }
 {
-    if e.message == 4 {
-        released(c, e)
-    } else if e.leg == 2 {
+    if leg2_goes_on(c, e) {
         taken_over(c, e)
+    } else if e.message == 4 {
+        released(c, e)
     } else {
         on_first_leg(c, e)
     }

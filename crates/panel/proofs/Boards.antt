@@ -16,7 +16,8 @@ use Rattle.station.specs.Table.{sound}
 use Rattle.station.specs.Step.{step, runOn}
 use Rattle.station.proofs.Places.{length-stays}
 use Rattle.board.specs.declared.Board.{Board}
-use Rattle.board.specs.Board.{tableOf, boardWith, putBack, soundBoard, stepBoard}
+use Rattle.board.specs.Board.{tableOf, boardWith, soundBoard}
+use Rattle.board.proofs.OneEvent.{putBack, stepBoard}
 use Rattle.board.proofs.Tables.{taken-again}
 use Rattle.printout.specs.Line.{line, printed}
 use Rattle.printout.specs.Panel.{linesText}

@@ -13,7 +13,7 @@ use Rattle.station.specs.declared.Answer.{Answer}
 use Rattle.station.specs.Station.{emptyAnswer}
 use Rattle.station.specs.Step.{answerOf, farAnswer}
 use Rattle.board.specs.declared.Board.{Board}
-use Rattle.board.specs.Board.{Stepped, stepSoundBoard}
+use Rattle.board.proofs.OneEvent.{Stepped, stepSoundBoard}
 use Rattle.board.proofs.Boards.{refusedBoard, doneBoard, farBoard}
 use Rattle.board.proofs.Beside.{boardNow}
 use Rattle.board.proofs.Steps.{tested-step}

@@ -9,7 +9,8 @@ use lib.ListN.{length}
 use Rattle.event.specs.declared.Event.{Event}
 use Rattle.wire.specs.Record.{eventAt, eventsFrom}
 use Rattle.board.specs.declared.Board.{Board}
-use Rattle.board.specs.Board.{Stepped, tableOf, soundBoard, stepBoard}
+use Rattle.board.specs.Board.{tableOf, soundBoard}
+use Rattle.board.proofs.OneEvent.{Stepped, stepBoard}
 use Rattle.board.proofs.Boards.{tested-short}
 use Rattle.board.proofs.Kept.{board-kept}
 use Rattle.printout.specs.Line.{line, printed}

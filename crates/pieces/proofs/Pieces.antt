@@ -9,7 +9,8 @@ use lib.ListN.{length, take, drop, length-drop}
 use Rattle.event.specs.declared.Event.{Event}
 use Rattle.wire.specs.Record.{eventsFrom}
 use Rattle.board.specs.declared.Board.{Board}
-use Rattle.board.specs.Board.{tableOf, soundBoard, stepBoard}
+use Rattle.board.specs.Board.{tableOf, soundBoard}
+use Rattle.board.proofs.OneEvent.{stepBoard}
 use Rattle.board.proofs.Boards.{tested-short}
 use Rattle.board.proofs.Kept.{start-sound, board-kept}
 use Rattle.printout.specs.Line.{line, printed}

@@ -50,6 +50,40 @@ first-small time q = lowest-small (dueNow time) (timersOf q)
 pub below-four : (n : ℕ) → n ≤ 4 → eqb n 4 ≡ false → n < 4
 below-four n l e = let d : n ≡ 4 → ⊥ = eqb-false n 4 e in omega arith
 
+-- which moment an event of each role is, by the tests of the kind as the code of the role finds them
+module _ (r : Remote) (e : Event) (identifier sort : ℕ) where
+  pub moment-asked : 16 ≤ e .kind → e .kind ≤ 19 → T (remoteFields e) → momentOf r e identifier sort ≡ (when eqb (sortOf e) sort then ask identifier else pass)
+  moment-asked l h f =
+      let a = le-leb 16 (e .kind) l in
+      let b = le-leb (e .kind) 19 h in
+      let d = le-leb (e .kind) 31 (omega arith) in
+      let z = ne-eqb (e .kind) 10 (λ q. omega arith) in
+      let k = is-true (remoteFields e) f in
+      by-cases (eqb (sortOf e) sort) (λ s. simp (z, a, b, d, s, k)) (λ s. simp (z, a, b, d, s, k))
+
+  pub moment-invoked : 20 ≤ e .kind → e .kind ≤ 23 → T (remoteFields e) → momentOf r e identifier sort ≡ pass
+  moment-invoked l h f =
+      let a = le-leb 16 (e .kind) (omega arith) in
+      let b = lt-leb (e .kind) 19 (omega arith) in
+      let d = le-leb (e .kind) 31 (omega arith) in
+      let g = le-leb (e .kind) 23 h in
+      let y = le-leb 20 (e .kind) l in
+      let z = ne-eqb (e .kind) 10 (λ q. omega arith) in
+      let k = is-true (remoteFields e) f in
+      by-cases (eqb (sortOf e) sort) (λ s. simp (z, a, b, d, g, y, s, k)) (λ s. simp (z, a, b, d, g, y, s, k))
+
+  pub moment-replied : 24 ≤ e .kind → e .kind ≤ 31 → T (remoteFields e)
+      → momentOf r e identifier sort ≡ (when eqb (sortOf e) sort then (when leb (e .kind) 27 then result (e .identifier) else reject (e .identifier)) else pass)
+  moment-replied l h f =
+      let a = le-leb 16 (e .kind) (omega arith) in
+      let b = lt-leb (e .kind) 19 (omega arith) in
+      let d = le-leb (e .kind) 31 h in
+      let g = lt-leb (e .kind) 23 (omega arith) in
+      let y = le-leb 24 (e .kind) l in
+      let z = ne-eqb (e .kind) 10 (λ q. omega arith) in
+      let k = is-true (remoteFields e) f in
+      by-cases (eqb (sortOf e) sort) (λ s. simp (z, a, b, d, g, y, s, k, and-false)) (λ s. simp (z, a, b, d, g, y, s, k))
+
 module _ (r : Remote) (e : Event) (identifier sort : ℕ) (small : sort < 4) where
   abbrev Same : Type 0
   Same =
@@ -82,43 +116,26 @@ module _ (r : Remote) (e : Event) (identifier sort : ℕ) (small : sort < 4) whe
       ∙ (rw c (ap (λ j. after (lengthOf sort) (e .time) (pendingOf j (r .pending)) m) k)))
       (λ c. placed b (sortOf e) p (r .pending) sort (sort-small e) small false c ∙ (rw c)))
 
-  -- tests of the kind as the code of each role finds them
   pub each-timed′ : Role e → Same
   each-timed′ (clocks c) = at-clock c
   each-timed′ (foreign c n) = rw (step-foreign r e identifier c n) (simp (c, n))
   each-timed′ (asked l h f) =
-      let a = le-leb 16 (e .kind) l in
-      let b = le-leb (e .kind) 19 h in
-      let d = le-leb (e .kind) 31 (omega arith) in
-      let z = ne-eqb (e .kind) 10 (λ q. omega arith) in
       at-sort (not (waits (its r e))) (timed.asked identifier (e .time)) (ask identifier)
       (rw (step-asked r e identifier l h f) (by-cases (waits (its r e)) (λ w. simp w) (λ w. simp w)))
       (λ length. by-cases (waits (its r e)) (λ w. simp w) (λ w. simp w))
-      (by-cases (eqb (sortOf e) sort) (λ s. simp (z, a, b, d, s, is-true (remoteFields e) f)) (λ s. simp (z, a, b, d, s, is-true (remoteFields e) f)))
+      (moment-asked r e identifier sort l h f)
   each-timed′ (invoked l h f) =
-      let a = le-leb 16 (e .kind) (omega arith) in
-      let b = lt-leb (e .kind) 19 (omega arith) in
-      let d = le-leb (e .kind) 31 (omega arith) in
-      let g = le-leb (e .kind) 23 h in
-      let y = le-leb 20 (e .kind) l in
-      let z = ne-eqb (e .kind) 10 (λ q. omega arith) in
+      let m = moment-invoked r e identifier sort l h f in
       at-sort false idle pass
       (rw (step-invoked r e identifier l h f) (by-cases (accepts r e) (λ w. simp w) (λ w. simp w)))
       (λ length. refl)
-      (by-cases (eqb (sortOf e) sort) (λ s. simp (z, a, b, d, g, y, s, is-true (remoteFields e) f)) (λ s. simp (z, a, b, d, g, y, s, is-true (remoteFields e) f)))
+      (by-cases (eqb (sortOf e) sort) (λ s. rw (m, s)) (λ s. rw (m, s)))
   each-timed′ (replied l h f) =
-      let a = le-leb 16 (e .kind) (omega arith) in
-      let b = lt-leb (e .kind) 19 (omega arith) in
-      let d = le-leb (e .kind) 31 h in
-      let g = lt-leb (e .kind) 23 (omega arith) in
-      let y = le-leb 24 (e .kind) l in
-      let z = ne-eqb (e .kind) 10 (λ q. omega arith) in
-      let k = is-true (remoteFields e) f in
       let m = when leb (e .kind) 27 then result (e .identifier) else reject (e .identifier) in
       at-sort (answers (e .identifier) (its r e)) idle m
       (rw (step-replied r e identifier l h f) (by-cases (answers (e .identifier) (its r e)) (λ w. simp w) (λ w. simp w)))
       (λ length. by-cases (leb (e .kind) 27) (λ w. simp w) (λ w. simp w))
-      (by-cases (eqb (sortOf e) sort) (λ s. simp (z, a, b, d, g, y, s, k, and-false)) (λ s. simp (z, a, b, d, g, y, s, k)))
+      (moment-replied r e identifier sort l h f)
 
 pub each-timed : EachTimed
 each-timed r e identifier sort small = each-timed′ r e identifier sort small (role e)

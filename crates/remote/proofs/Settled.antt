@@ -3,9 +3,8 @@ use Prim.Native.Nat.{ℕ, _≤_}
 use native.Mathlib.Omega.{arith}
 use mathlib.Core.Path.{_≡_, refl, sym, _∙_}
 use lib.Dec.{T, leb, eqb, leb→le}
-use borrow.Author.Tests.{le-leb, lt-leb, eq-eqb, ne-eqb, eqb-true}
+use borrow.Author.Tests.{le-leb, eq-eqb, eqb-true}
 use Rattle.ground.proofs.Bools.{and-l, and-r, is-true, by-cases, when-has}
-use Rattle.ground.proofs.Walks.{and-false}
 use Rattle.event.specs.declared.Event.{Event}
 use Rattle.event.specs.Kinds.{clock}
 use Rattle.call.specs.Messages.{noIdentifier}
@@ -22,7 +21,7 @@ use Rattle.remote.specs.Rules.{its, remoteRefusal, asking, accepts, agre
 use Rattle.remote.specs.Laws.{momentOf, Ends, by-answer, by-expiry, EndsOnly, Settles, SettlesSilently, FirstExpires, AnsweredStillValid, ExpiredStillValid, MarksStay}
 use Rattle.remote.proofs.Held.{put-here, put-there}
 use Rattle.remote.proofs.Roles.{Role, clocks, asked, invoked, replied, foreign, role, sort-small, step-clocks, step-foreign, step-asked, step-invoked, step-replied}
-use Rattle.remote.proofs.Machine.{each-timed, lapse-first}
+use Rattle.remote.proofs.Machine.{moment-asked, moment-invoked, moment-replied, each-timed, lapse-first}
 
 module _ (r : Remote) (e : Event) (identifier sort : ℕ) where
   p : Pending
@@ -38,33 +37,17 @@ module _ (r : Remote) (e : Event) (identifier sort : ℕ) where
       (λ s. by-expiry c (eqb-true (firstDue (e .time) (r .pending)) sort s) (rw s at u)) (λ s. absurd (rw s at u))
   ends (foreign c n) t = absurd (simp (c, n) at t)
   ends (asked l h f) t =
-      let a = le-leb 16 (e .kind) l in
-      let b = le-leb (e .kind) 19 h in
-      let d = le-leb (e .kind) 31 (omega arith) in
-      let z = ne-eqb (e .kind) 10 (λ q. omega arith) in
-      by-cases (eqb (sortOf e) sort) (λ s. absurd (simp (z, a, b, d, s, is-true (remoteFields e) f) at t)) (λ s. absurd (simp (z, a, b, d, s, is-true (remoteFields e) f) at t))
-  ends (invoked l h f) t =
-      let a = le-leb 16 (e .kind) (omega arith) in
-      let b = lt-leb (e .kind) 19 (omega arith) in
-      let d = le-leb (e .kind) 31 (omega arith) in
-      let g = le-leb (e .kind) 23 h in
-      let y = le-leb 20 (e .kind) l in
-      let z = ne-eqb (e .kind) 10 (λ q. omega arith) in
-      by-cases (eqb (sortOf e) sort) (λ s. absurd (simp (z, a, b, d, g, y, s, is-true (remoteFields e) f) at t)) (λ s. absurd (simp (z, a, b, d, g, y, s, is-true (remoteFields e) f) at t))
+      let u = rw (moment-asked r e identifier sort l h f) at t in
+      by-cases (eqb (sortOf e) sort) (λ s. absurd (rw s at u)) (λ s. absurd (rw s at u))
+  ends (invoked l h f) t = absurd (rw (moment-invoked r e identifier sort l h f) at t)
   ends (replied l h f) t =
-      let a = le-leb 16 (e .kind) (omega arith) in
-      let b = lt-leb (e .kind) 19 (omega arith) in
-      let d = le-leb (e .kind) 31 h in
-      let g = lt-leb (e .kind) 23 (omega arith) in
-      let y = le-leb 24 (e .kind) l in
-      let z = ne-eqb (e .kind) 10 (λ q. omega arith) in
-      let k = is-true (remoteFields e) f in
-      let o : T (answersOurs e) = simp (y, d) tt in
+      let u = rw (moment-replied r e identifier sort l h f) at t in
+      let o : T (answersOurs e) = rw (le-leb 24 (e .kind) l, le-leb (e .kind) 31 h) tt in
       by-cases (eqb (sortOf e) sort)
       (λ s. by-cases (leb (e .kind) 27)
-      (λ w. by-answer o (eqb-true (sortOf e) sort s) (simp (z, a, b, d, g, y, s, k, w, and-false) at t))
-      (λ w. by-answer o (eqb-true (sortOf e) sort s) (simp (z, a, b, d, g, y, s, k, w, and-false) at t)))
-      (λ s. absurd (simp (z, a, b, d, g, y, s, k) at t))
+      (λ w. by-answer o (eqb-true (sortOf e) sort s) (rw (s, w) at u))
+      (λ w. by-answer o (eqb-true (sortOf e) sort s) (rw (s, w) at u)))
+      (λ s. absurd (rw s at u))
 
 pub ends-only : EndsOnly
 ends-only r e identifier sort small w n =

@@ -14,7 +14,8 @@ use Rattle.station.specs.Step as list
 use Rattle.station.specs.Step.{Outcome, step}
 use Rattle.station.proofs.Places.{length-stays}
 use Rattle.board.specs.declared.Board.{Board}
-use Rattle.board.specs.Board.{tableOf, boardWith, putBack, soundBoard, stepBoard, stepSoundBoard}
+use Rattle.board.specs.Board.{tableOf, boardWith, soundBoard}
+use Rattle.board.proofs.OneEvent.{putBack, stepBoard, stepSoundBoard}
 use Rattle.board.proofs.Boards.{tested-short}
 use Rattle.board.proofs.Tables.{one-step}
 use Rattle.runs.specs.Run.{ran, onBoard, runBoard}

@@ -11,7 +11,8 @@ use Rattle.ground.specs.Choice.{when_then_else_}
 use Rattle.event.specs.declared.Event.{Event}
 use Rattle.wire.specs.Record.{eventAt, eventsFrom}
 use Rattle.board.specs.declared.Board.{Board}
-use Rattle.board.specs.Board.{Stepped, soundBoard, stepBoard, stepSoundBoard}
+use Rattle.board.specs.Board.{soundBoard}
+use Rattle.board.proofs.OneEvent.{Stepped, stepBoard, stepSoundBoard}
 use Rattle.board.proofs.Boards.{refusedBoard}
 use Rattle.board.proofs.Steps.{tested-step, unsound-step}
 use Rattle.board.proofs.Kept.{board-kept}

@@ -14,7 +14,7 @@ use Rattle.station.specs.declared.Station.{Station}
 use Rattle.station.specs.Step.{farAnswer}
 use Rattle.notes.specs.declared.Notes.{Notes}
 use Rattle.board.specs.declared.Board.{Board}
-use Rattle.board.specs.Board.{stepSoundBoard}
+use Rattle.board.proofs.OneEvent.{stepSoundBoard}
 use Rattle.board.proofs.Boards.{refusedBoard, doneBoard, farBoard}
 use Rattle.board.proofs.Beside.{Beside, boardNow}
 use Rattle.runs.specs.declared.Ran.{Ran}

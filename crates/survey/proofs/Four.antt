@@ -1,6 +1,6 @@
 -- What is noted with the four requests of a station: where no mark was set twice no two open requests of both tables share an identifier. Assumes nothing.
 use Prim.Native.Nat.{ℕ}
-use mathlib.Core.Bool.{true, false, _&&_}
+use mathlib.Core.Bool.{true, false}
 use mathlib.Core.List.{List, [], _∷_, _++_, append-assoc, append-nil}
 use mathlib.Core.Path.{_≡_, refl}
 use borrow.Author.Tests.{eqb-true}
@@ -15,6 +15,7 @@ use Rattle.timed.specs.Timed.{waits, Timer, own, identifiersOf}
 use Rattle.remote.specs.declared.Pendings.{Pendings}
 use Rattle.remote.specs.Held.{timersOf}
 use Rattle.holding.specs.Idle.{fourIdle}
+use Rattle.holding.proofs.Idle.{none-waits}
 use Rattle.call.specs.declared.Call.{Call}
 use Rattle.station.specs.Table.{requestsOf}
 use Rattle.survey.specs.declared.Asked.{Asked}
@@ -37,20 +38,15 @@ module _ (v : Noted) (p : Pendings) where
   four-due = refl
 
 -- a request that doesn't wait adds nothing
-idle-adds-nothing : (v : Noted) (p : Pending) → p .wait ≡ 0 → withPending v p ≡ v
+idle-adds-nothing : (v : Noted) (p : Pending) → eqb (p .wait) 0 ≡ true → withPending v p ≡ v
 unfolding withPending
-idle-adds-nothing v p e = rw e refl
+idle-adds-nothing v p h = rw (eqb-true (p .wait) 0 h) refl
 
 -- where none of the four waits nothing is added
 pub four-idle : (v : Noted) (p : Pendings) → fourIdle p ≡ true → v ≡ withFour v p
 four-idle v p h =
-    let a = eqb (p .activation .wait) 0 in
-    let d = eqb (p .deactivation .wait) 0 in
-    let i = eqb (p .interrogation .wait) 0 in
-    let all = both (a && d && i) (eqb (p .check .wait) 0) h in
-    let three = both (a && d) i (all .0) in
-    let two = both a d (three .0) in
-    rw (idle-adds-nothing v (p .activation) (eqb-true _ _ (two .0)), idle-adds-nothing v (p .deactivation) (eqb-true _ _ (two .1)), idle-adds-nothing v (p .interrogation) (eqb-true _ _ (three .1)), idle-adds-nothing v (p .check) (eqb-true _ _ (all .1)))
+    let n = none-waits p h in
+    rw (idle-adds-nothing v (p .activation) (n .activation), idle-adds-nothing v (p .deactivation) (n .deactivation), idle-adds-nothing v (p .interrogation) (n .interrogation), idle-adds-nothing v (p .check) (n .check))
     refl
 
 -- the identifiers of which something was noted: each has its mark, and where no mark was set twice they are distinct

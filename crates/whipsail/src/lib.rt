@@ -1,20 +1,10 @@
-// What a host links: the engine under plain names, by the C calling convention. Every slice and event may be handed in.
-// The run stands in `whipsail_runs`, fresh stations, bytes and plans in `whipsail_aids`, for the same archive.
+// What a host links: the engine under a plain name, by the C calling convention. Every slice and event may be handed in.
+// The run stands in `whipsail_runs`, fresh stations, an event's test, bytes and plans in `whipsail_aids`, for the same archive.
 ghost use mathlib.Core.Path.{_≡_};
-ghost use Rattle.event.specs.WellMade.{wellMade};
 ghost use Rattle.whipsail.specs.Lent.{replyOf, tableAfter};
 use call::Call;
 use change::Reply;
-use event::Event;
 use pick::Input;
-
-// Whether the event passes the test behind number 3.
-#[no_mangle]
-pub extern "C" fn whipsail_well_made(e: Event) -> bool
-    ensures { λ r. ⌜ r ≡ wellMade e ⌝ }
-{
-    wellmade::well_made(e.kind, e)
-}
 
 // One event on the records that the host lends, of any number: at most one of them is written.
 #[no_mangle]

@@ -1,6 +1,7 @@
-// What a host links beside the step: a fresh station, an event read from bytes, who rings tonight. A crate of its own, so a compiled
-// module of its own: a wrong version here does not prove the lent step again.
+// What a host links beside the step: a fresh station, an event read from bytes and tested, who rings tonight. A crate of its own, so a
+// compiled module of its own: a wrong version here does not prove the lent step again, and the step has the event's test to itself.
 ghost use mathlib.Core.Path.{_≡_};
+ghost use Rattle.event.specs.WellMade.{wellMade};
 ghost use Rattle.station.specs.Station.{freshOf, shortForm};
 ghost use Rattle.rehearsal.specs.Rehearsal.{rehearsalOf};
 ghost use Rattle.whipsail_aids.specs.Read.{notRead, readAt};
@@ -73,6 +74,14 @@ pub extern "C" fn whipsail_event_at(bytes: &[u8], i: usize) -> Read
         whole: 1,
         event: event,
     }
+}
+
+// Whether the event passes the test behind number 3.
+#[no_mangle]
+pub extern "C" fn whipsail_well_made(e: Event) -> bool
+    ensures { λ r. ⌜ r ≡ wellMade e ⌝ }
+{
+    wellmade::well_made(e.kind, e)
 }
 
 // Who rings if a call is offered to this panel of the plan first: four numbers for each panel.

@@ -254,7 +254,7 @@ const ENTRIES: [(&str, &str, &[&str], &str); 7] = [
     ("whipsail_aids", "whipsail_fresh_short", &[], "station"),
     ("whipsail", "whipsail_lent_step", &["input"], "told"),
     ("whipsail_aids", "whipsail_event_at", &[], "read"),
-    ("whipsail", "whipsail_well_made", &["event"], ""),
+    ("whipsail_aids", "whipsail_well_made", &["event"], ""),
     ("whipsail_aids", "whipsail_rehearse", &[], "rehearsed"),
     ("whipsail_runs", "whipsail_run", &["board"], "ran"),
 ];

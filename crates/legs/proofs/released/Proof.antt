@@ -3,4 +3,4 @@ use Rattle.legs.proofs.released.Statement.{statement}
 use Rattle.legs.proofs.released.Tie as tie
 
 pub released-spec : {M : Type 1} → statement M
-released-spec = tie.close (tie.spec (λ c κs. tt) (λ c κs. tt) (λ c κs. tt) (λ c. search ways) (λ c. search ways) (λ c. search ways))
+released-spec = tie.close (tie.spec (λ c κs. tt) (λ c κs. tt) (λ c. search ways) (λ c. search ways))
