@@ -33,6 +33,19 @@ messageOf w = record {
   number = w .rest / 281474976710656;
 }
 
+-- an effect, packed
+abbrev pub packedOf : Effect → Packed
+packedOf x = record {
+  call = x .call;
+  first = wordsOf (x .sent .first);
+  second = wordsOf (x .sent .second);
+  third = wordsOf (x .sent .third);
+  notice = x .notice;
+  number = x .number;
+  identifier = x .identifier;
+  counter = x .counter;
+}
+
 -- the effect that is packed so
 abbrev pub effectOf : Packed → Effect
 effectOf p = record {

@@ -1,7 +1,7 @@
 // An effect with each message as two numbers: what the rules of fifteen kinds hand back is joined, and the compiler then joins six words where the
 // messages have 33 fields.
 ghost use mathlib.Core.Path.{_≡_};
-ghost use Rattle.packed.specs.Messages.{headWord, restWord, messageOf, effectOf};
+ghost use Rattle.packed.specs.Messages.{headWord, restWord, wordsOf, messageOf, packedOf, effectOf};
 use call::Call;
 use call::Effect;
 use call::Message;
@@ -47,7 +47,7 @@ fn rest_word(m: Message) -> u64
 
 // The message of these words is itself.
 fn words_of(m: Message) -> Words
-    ensures { λ r. ⌜ messageOf r ≡ m ⌝ }
+    ensures { λ r. ⌜ (r ≡ wordsOf m) × (messageOf r ≡ m) ⌝ }
 {
     let head = head_word(m);
     let rest = rest_word(m);
@@ -79,7 +79,7 @@ fn message_of(w: Words) -> Message
 
 // The effect, packed: unpacked it is itself.
 pub fn pack(x: Effect) -> Packed
-    ensures { λ r. ⌜ effectOf r ≡ x ⌝ }
+    ensures { λ r. ⌜ (r ≡ packedOf x) × (effectOf r ≡ x) ⌝ }
 {
     let call = x.call;
     let sent = x.sent;
