@@ -7,7 +7,7 @@ use event::Event;
 use packed::Packed;
 use sight::Seen;
 
-// The rule of the event's kind, with the messages packed. Each arm returns, so that it stores its own result.
+// The rule of the event's kind. Each arm packs what it hands back, before the arms are joined.
 fn packed_by_kind(e: Event, seen: Seen) -> Packed
     requires { ⌜ doable e seen ⌝ }
     ensures { λ r. ⌜ effectOf r ≡ actedOf e seen ⌝ }
@@ -75,6 +75,7 @@ fn packed_by_kind(e: Event, seen: Seen) -> Packed
         15 => {
             return packed::pack(message::freed());
         }
+        // no other kind is done on a record
         _ => {
             return packed::pack(ending::ended(c));
         }

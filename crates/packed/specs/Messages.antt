@@ -1,4 +1,4 @@
--- An effect whose messages are held as two numbers each: the fields that lie side by side in memory.
+-- An effect whose messages are held as two words each: the fields that lie side by side in memory, as one number.
 use Prim.Native.Nat.{ℕ, _+_, _*_, _/_, _%_}
 use Rattle.call.specs.declared.Message.{Message}
 use Rattle.call.specs.declared.Effect.{Effect}
@@ -10,7 +10,7 @@ abbrev pub headWord : Message → ℕ
 headWord m =
     m .letter + 256 * m .leg + 65536 * m .reason + 16777216 * m .option + 4294967296 * m .counter + 1099511627776 * m .flag + 281474976710656 * m .identifier
 
--- the numbers
+-- the parties and the number
 abbrev pub restWord : Message → ℕ
 restWord m = m .destination + 65536 * m .diverting + 4294967296 * m .original + 281474976710656 * m .number
 

@@ -1,4 +1,4 @@
-// An effect with each message as two numbers: what the rules of fifteen kinds hand back is joined, and the compiler then joins six words where the
+// An effect with each message as two words: what the rules of fifteen kinds hand back is joined, and the compiler then joins six words where the
 // messages have 33 fields.
 ghost use mathlib.Core.Path.{_≡_};
 ghost use Rattle.packed.specs.Messages.{headWord, restWord, wordsOf, messageOf, packedOf, effectOf};
@@ -77,7 +77,7 @@ fn message_of(w: Words) -> Message
     }
 }
 
-// The effect, packed: unpacked it is itself.
+// The effect, packed; unpacked it is itself, which is said too since a caller doesn't know that each field fits its place in a word.
 pub fn pack(x: Effect) -> Packed
     ensures { λ r. ⌜ (r ≡ packedOf x) × (effectOf r ≡ x) ⌝ }
 {

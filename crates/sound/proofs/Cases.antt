@@ -112,7 +112,7 @@ request-all (suc zero) (suc zero) reason basic start last iz = rw (and-false (le
 request-all (suc zero) (suc (suc g)) reason basic start last iz = rw (over-0 (suc g), above-1 g)
 request-all (suc (suc n)) granted reason basic start last iz = rw (over-1 n, over-0 (suc n), above-1 n) (same-false (eqb granted 1))
 
--- the last of four tests, asked last
+-- the second of four tests, asked last
 asked-last : (a n s f : Bool) → (when a && n && s then f else false) ≡ (a && f && n && s)
 asked-last true true true f = rw (and-true f, and-true f)
 asked-last true true false f = sym (and-false (f && true))

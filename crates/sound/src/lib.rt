@@ -91,7 +91,7 @@ fn diverted_holds(c: Call) -> bool
     (counter <= 15) & ((cdf == 2) | ((cdf == 1) & !(c.basic == 3)))
 }
 
-// A request is open, one was granted, or neither; whether its reason fits is asked last, and of these two alone.
+// A request is open, one was granted, or neither. Whether the reason fits is asked last, and only of an open or a granted one: it costs most.
 fn request_holds(c: Call, last: u64) -> bool
     ensures { λ r. ⌜ r ≡ requestBy last c ⌝ }
 {
