@@ -51,8 +51,7 @@ fn column(out: &mut [u8], at: usize, value: u32, none: u32) -> usize {
 pub fn write(out: &mut [u8], position: u64, a: &Answer) -> usize {
     let mut at = number(out, 0, position);
     out[at] = b' ';
-    out[at + 1] = b'0' + a.code;
-    at += 2;
+    at = number(out, at + 1, u64::from(a.code));
     at = column(out, at, u32::from(a.call), 255);
     at = column(out, at, u32::from(a.notice), 255);
     at = column(out, at, u32::from(a.number), 0);

@@ -58,7 +58,15 @@ fn run_tested(b: Board, events: &[u8]) -> Ran
                 done += 1;
             }
             Turn::Done => {
-                let x = deed::acted(e, seen);
+                // Read once more: what no test has looked at is loaded here, and only for an event that is done
+                let again = calls[i];
+                let seen_again = Seen {
+                    len: len,
+                    place: place,
+                    identifier: identifier,
+                    call: again,
+                };
+                let x = deed::acted(e, seen_again);
                 let d = x.call;
                 calls[i] = d;
                 free = bits::flip(free, i, c.direction, d.direction);

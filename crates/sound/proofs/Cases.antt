@@ -99,18 +99,33 @@ no-start start last t = le-leb start last (omega (arith, eqb-true start 0 t))
 no-reason : (reason : ℕ) → eqb reason 0 ≡ true → leb reason 3 ≡ true
 no-reason reason t = le-leb reason 3 (omega (arith, eqb-true reason 0 t))
 
-pub request-same : (cds granted reason basic start last : ℕ) (iz : Bool)
+request-all : (cds granted reason basic start last : ℕ) (iz : Bool)
     → (when eqb cds 1 then eqb granted 0 && fitsIn reason basic && not iz && leb start last else when eqb granted 1 then eqb cds 0 && fitsIn reason basic && iz && eqb start 0 else
     eqb cds 0 && eqb granted 0 && eqb reason 0 && iz && eqb start 0)
     ≡ (leb cds 1 && leb granted 1 && leb reason 3 && ((eqb cds 1 || eqb granted 1 || eqb reason 0) && (eqb cds 1 || (iz && eqb start 0))) && only (eqb cds 1) (not iz)
     && (not (eqb cds 1 && eqb granted 1) && only (eqb cds 1 || eqb granted 1) (not (eqb basic 3)) && only (eqb cds 1 || eqb granted 1) (fitsIn reason basic)) && leb start last)
-request-same zero zero reason basic start last iz = neither-case (leb reason 3) (eqb reason 0) iz (eqb start 0) (leb start last) (no-reason reason) (no-start start last)
-request-same zero (suc zero) reason basic start last iz = granted-case (leb reason 3) (not (eqb basic 3)) (fitsIn reason basic) iz (eqb start 0) (leb start last) (fits-known reason basic) (no-start start last)
-request-same zero (suc (suc g)) reason basic start last iz = rw (over-1 g, over-0 (suc g), above-1 g)
-request-same (suc zero) zero reason basic start last iz = open-case (leb reason 3) (not (eqb basic 3)) (fitsIn reason basic) (not iz) (leb start last) (fits-known reason basic)
-request-same (suc zero) (suc zero) reason basic start last iz = rw (and-false (leb reason 3 && true && not iz))
-request-same (suc zero) (suc (suc g)) reason basic start last iz = rw (over-0 (suc g), above-1 g)
-request-same (suc (suc n)) granted reason basic start last iz = rw (over-1 n, over-0 (suc n), above-1 n) (same-false (eqb granted 1))
+request-all zero zero reason basic start last iz = neither-case (leb reason 3) (eqb reason 0) iz (eqb start 0) (leb start last) (no-reason reason) (no-start start last)
+request-all zero (suc zero) reason basic start last iz = granted-case (leb reason 3) (not (eqb basic 3)) (fitsIn reason basic) iz (eqb start 0) (leb start last) (fits-known reason basic) (no-start start last)
+request-all zero (suc (suc g)) reason basic start last iz = rw (over-1 g, over-0 (suc g), above-1 g)
+request-all (suc zero) zero reason basic start last iz = open-case (leb reason 3) (not (eqb basic 3)) (fitsIn reason basic) (not iz) (leb start last) (fits-known reason basic)
+request-all (suc zero) (suc zero) reason basic start last iz = rw (and-false (leb reason 3 && true && not iz))
+request-all (suc zero) (suc (suc g)) reason basic start last iz = rw (over-0 (suc g), above-1 g)
+request-all (suc (suc n)) granted reason basic start last iz = rw (over-1 n, over-0 (suc n), above-1 n) (same-false (eqb granted 1))
+
+-- the second of four tests, asked last
+asked-last : (a n s f : Bool) → (when a && n && s then f else false) ≡ (a && f && n && s)
+asked-last true true true f = rw (and-true f, and-true f)
+asked-last true true false f = sym (and-false (f && true))
+asked-last true false s f = rw (and-false f)
+asked-last false n s f = refl
+
+pub request-same : (cds granted reason basic start last : ℕ) (iz : Bool)
+    → (when eqb cds 1 then (when eqb granted 0 && not iz && leb start last then fitsIn reason basic else false) else when eqb granted 1 then (when eqb cds 0 && iz && eqb start 0 then fitsIn reason basic else false) else
+    eqb cds 0 && eqb granted 0 && eqb reason 0 && iz && eqb start 0)
+    ≡ (leb cds 1 && leb granted 1 && leb reason 3 && ((eqb cds 1 || eqb granted 1 || eqb reason 0) && (eqb cds 1 || (iz && eqb start 0))) && only (eqb cds 1) (not iz)
+    && (not (eqb cds 1 && eqb granted 1) && only (eqb cds 1 || eqb granted 1) (not (eqb basic 3)) && only (eqb cds 1 || eqb granted 1) (fitsIn reason basic)) && leb start last)
+request-same cds granted reason basic start last iz =
+    rw (asked-last (eqb granted 0) (not iz) (leb start last) (fitsIn reason basic), asked-last (eqb cds 0) iz (eqb start 0) (fitsIn reason basic)) (request-all cds granted reason basic start last iz)
 
 -- ---- the whole
 iff : (a b : Bool) → (T a → T b) → (T b → T a) → a ≡ b

@@ -19,8 +19,8 @@ divertedBy c =
 -- a request is open, one was granted, or neither
 abbrev pub requestBy : ℕ → Call → Bool
 requestBy last c =
-    when requested c then eqb (c .granted) unmarked && fits (c .reason) c && not (eqb (c .identifier) 0) && startHolds last c else
-    when granted c then eqb (c .cds) Idle && fits (c .reason) c && eqb (c .identifier) 0 && eqb (c .start) 0 else
+    when requested c then (when eqb (c .granted) unmarked && not (eqb (c .identifier) 0) && startHolds last c then fits (c .reason) c else false) else
+    when granted c then (when eqb (c .cds) Idle && eqb (c .identifier) 0 && eqb (c .start) 0 then fits (c .reason) c else false) else
     eqb (c .cds) Idle && eqb (c .granted) unmarked && eqb (c .reason) 0 && eqb (c .identifier) 0 && eqb (c .start) 0
 
 -- what holds of each incoming call's record

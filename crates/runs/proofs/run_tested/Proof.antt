@@ -73,59 +73,73 @@ refresh-requires c κs =
 add-done : tie.Need-add-done Inv-loop μ-loop
 add-done c = omega (arith, c .before .before .before .before .before .before .before .before .before .before .before .before .before .before .before .loop, c .before .before .before .before .before .before .before .before .before .before .before .before .before .before .loop-test, c .before .before .before .before .before .before .before .before .before .before .before .before .before .before .before .before .before .before .before .before .before .before .good)
 
+mul-again : tie.Need-mul-again Inv-loop μ-loop
+mul-again c =
+    let wi = c .before .before .before .before .before .before .within in
+    let m : wi .result < 64 = rw (wi .ensures) (within-small _ _ (tested-short (c .before .before .before .before .before .before .before .before .before .before .before .before .before .before .before .before .before .before .args .b) (c .before .before .before .before .before .before .before .before .before .before .before .before .before .before .before .before .before .before .pre))) in
+    let w = c .before .before .before .before .before .before .before .before .before .before .before .loop .inv .1 .beside in
+    omega (arith, m, w .long, w .wide, w .broad)
+
+array-copy-out-again : tie.Need-array-copy-out-again Inv-loop μ-loop
+array-copy-out-again c =
+    let wi = c .before .before .before .before .before .before .within in
+    let m : wi .result < 64 = rw (wi .ensures) (within-small _ _ (tested-short (c .before .before .before .before .before .before .before .before .before .before .before .before .before .before .before .before .before .before .args .b) (c .before .before .before .before .before .before .before .before .before .before .before .before .before .before .before .before .before .before .pre))) in
+    let w = c .before .before .before .before .before .before .before .before .before .before .before .loop .inv .1 .beside in
+    omega (arith, m, w .long, w .wide, w .broad)
+
 acted-requires : tie.Need-acted-requires Inv-loop μ-loop
 acted-requires c κs =
-    let a = c .before .before .before .before .before .before .before .before .before .before .before .before .before .before .before .before .before .before in
+    let a = c .before .before .before .before .before .before .before .before .before .before .before .before .before .before .before .before .before .before .before in
     let b = a .args .b in
     let h = tested-short b (a .pre) in
-    let v = c .before .before .before .before .before .before .before .before .before .before .before .loop in
+    let v = c .before .before .before .before .before .before .before .before .before .before .before .before .loop in
     let w = v .inv .1 in
-    let ev = c .before .before .before .before .before .before .before .before .before .event-at in
+    let ev = c .before .before .before .before .before .before .before .before .before .before .event-at in
     let e = ev .result in
-    let pl = c .before .before .before .before .before .before .before .place-on in
-    let wi = c .before .before .before .before .before .before .within in
-    let id = c .before .before .before .identifier-in in
-    let t = c .before .before .turned in
+    let pl = c .before .before .before .before .before .before .before .before .place-on in
+    let wi = c .before .before .before .before .before .before .before .within in
+    let id = c .before .before .before .before .identifier-in in
+    let t = c .before .before .before .turned in
     let d = notes (v .free) (v .soon) (v .dues) (v .held) in
     let late : e .time ≤ never = omega (arith, ev .ok) in
     let seen : Seen = record { len = b .len; place = pl .result; identifier = id .result; call = getD (v .calls) (wi .result) unread } in
     let near : pl .result < b .len → wi .result ≡ pl .result = λ l. wi .ensures ∙ within-near (pl .result) (b .len) l in
     let there : pl .result < b .len → seen .call ≡ getD (v .calls) (pl .result) freeCall = λ l. ap (λ i. getD (v .calls) i unread) (near l) ∙ read-any (v .calls) (pl .result) unread freeCall (omega (arith, l, w .beside .long, h)) in
-    turn-doable (boardNow b (v .s) (v .calls)) d e h (w .beside) late seen refl (pl .ensures) there (id .ensures) (t .result) (t .ensures) (c .enum-told3 .given .1) (v .inv .2)
+    turn-doable (boardNow b (v .s) (v .calls)) d e h (w .beside) late seen refl (pl .ensures) there (id .ensures) (t .result) (t .ensures) (c .before .enum-told3 .given .1) (v .inv .2)
 
 mul-calls : tie.Need-mul-calls Inv-loop μ-loop
 mul-calls c =
-    let wi = c .before .before .before .before .before .before .before .before .within in
-    let m : wi .result < 64 = rw (wi .ensures) (within-small _ _ (tested-short (c .before .before .before .before .before .before .before .before .before .before .before .before .before .before .before .before .before .before .before .before .args .b) (c .before .before .before .before .before .before .before .before .before .before .before .before .before .before .before .before .before .before .before .before .pre))) in
-    let w = c .before .before .before .before .before .before .before .before .before .before .before .before .before .loop .inv .1 .beside in
+    let wi = c .before .before .before .before .before .before .before .before .before .within in
+    let m : wi .result < 64 = rw (wi .ensures) (within-small _ _ (tested-short (c .before .before .before .before .before .before .before .before .before .before .before .before .before .before .before .before .before .before .before .before .before .args .b) (c .before .before .before .before .before .before .before .before .before .before .before .before .before .before .before .before .before .before .before .before .before .pre))) in
+    let w = c .before .before .before .before .before .before .before .before .before .before .before .before .before .before .loop .inv .1 .beside in
     omega (arith, m, w .long, w .wide, w .broad)
 
 array-set-from-calls : tie.Need-array-set-from-calls Inv-loop μ-loop
 array-set-from-calls c =
-    let wi = c .before .before .before .before .before .before .before .before .within in
-    let m : wi .result < 64 = rw (wi .ensures) (within-small _ _ (tested-short (c .before .before .before .before .before .before .before .before .before .before .before .before .before .before .before .before .before .before .before .before .args .b) (c .before .before .before .before .before .before .before .before .before .before .before .before .before .before .before .before .before .before .before .before .pre))) in
-    let w = c .before .before .before .before .before .before .before .before .before .before .before .before .before .loop .inv .1 .beside in
+    let wi = c .before .before .before .before .before .before .before .before .before .within in
+    let m : wi .result < 64 = rw (wi .ensures) (within-small _ _ (tested-short (c .before .before .before .before .before .before .before .before .before .before .before .before .before .before .before .before .before .before .before .before .before .args .b) (c .before .before .before .before .before .before .before .before .before .before .before .before .before .before .before .before .before .before .before .before .before .pre))) in
+    let w = c .before .before .before .before .before .before .before .before .before .before .before .before .before .before .loop .inv .1 .beside in
     omega (arith, m, w .long, w .wide, w .broad)
 
 flip-requires : tie.Need-flip-requires Inv-loop μ-loop
 flip-requires c κs =
-    let a = c .before .before .before .before .before .before .before .before .before .before .before .before .before .before .before .before .before .before .before .before in
+    let a = c .before .before .before .before .before .before .before .before .before .before .before .before .before .before .before .before .before .before .before .before .before in
     let b = a .args .b in
     let h = tested-short b (a .pre) in
-    let v = c .before .before .before .before .before .before .before .before .before .before .before .before .before .loop in
+    let v = c .before .before .before .before .before .before .before .before .before .before .before .before .before .before .loop in
     let w = v .inv .1 in
-    let ev = c .before .before .before .before .before .before .before .before .before .before .before .event-at in
+    let ev = c .before .before .before .before .before .before .before .before .before .before .before .before .event-at in
     let e = ev .result in
-    let pl = c .before .before .before .before .before .before .before .before .before .place-on in
-    let wi = c .before .before .before .before .before .before .before .before .within in
-    let id = c .before .before .before .before .before .identifier-in in
-    let t = c .before .before .before .before .turned in
+    let pl = c .before .before .before .before .before .before .before .before .before .before .place-on in
+    let wi = c .before .before .before .before .before .before .before .before .before .within in
+    let id = c .before .before .before .before .before .before .identifier-in in
+    let t = c .before .before .before .before .before .turned in
     let d = notes (v .free) (v .soon) (v .dues) (v .held) in
     let late : e .time ≤ never = omega (arith, ev .ok) in
     let seen : Seen = record { len = b .len; place = pl .result; identifier = id .result; call = getD (v .calls) (wi .result) unread } in
     let near : pl .result < b .len → wi .result ≡ pl .result = λ l. wi .ensures ∙ within-near (pl .result) (b .len) l in
     let there : pl .result < b .len → seen .call ≡ getD (v .calls) (pl .result) freeCall = λ l. ap (λ i. getD (v .calls) i unread) (near l) ∙ read-any (v .calls) (pl .result) unread freeCall (omega (arith, l, w .beside .long, h)) in
-    let known = c .before .before .enum-told3 .given in
+    let known = c .before .before .before .enum-told3 .given in
     let x = c .before .acted .result in
     let l = turn-there (boardNow b (v .s) (v .calls)) d e h (w .beside) late seen refl (pl .ensures) there (id .ensures) (t .result) (t .ensures) (known .1) in
     rw (near l, read-any (v .calls) (pl .result) unread freeCall (omega (arith, l, w .beside .long, h)))
@@ -133,34 +147,34 @@ flip-requires c κs =
 
 mul-dues : tie.Need-mul-dues Inv-loop μ-loop
 mul-dues c =
-    let wi = c .before .before .before .before .before .before .before .before .before .before .within in
-    let m : wi .result < 64 = rw (wi .ensures) (within-small _ _ (tested-short (c .before .before .before .before .before .before .before .before .before .before .before .before .before .before .before .before .before .before .before .before .before .before .args .b) (c .before .before .before .before .before .before .before .before .before .before .before .before .before .before .before .before .before .before .before .before .before .before .pre))) in
-    let w = c .before .before .before .before .before .before .before .before .before .before .before .before .before .before .before .loop .inv .1 .beside in
+    let wi = c .before .before .before .before .before .before .before .before .before .before .before .within in
+    let m : wi .result < 64 = rw (wi .ensures) (within-small _ _ (tested-short (c .before .before .before .before .before .before .before .before .before .before .before .before .before .before .before .before .before .before .before .before .before .before .before .args .b) (c .before .before .before .before .before .before .before .before .before .before .before .before .before .before .before .before .before .before .before .before .before .before .before .pre))) in
+    let w = c .before .before .before .before .before .before .before .before .before .before .before .before .before .before .before .before .loop .inv .1 .beside in
     omega (arith, m, w .long, w .wide, w .broad)
 
 array-write-dues : tie.Need-array-write-dues Inv-loop μ-loop
 array-write-dues c =
-    let wi = c .before .before .before .before .before .before .before .before .before .before .within in
-    let m : wi .result < 64 = rw (wi .ensures) (within-small _ _ (tested-short (c .before .before .before .before .before .before .before .before .before .before .before .before .before .before .before .before .before .before .before .before .before .before .args .b) (c .before .before .before .before .before .before .before .before .before .before .before .before .before .before .before .before .before .before .before .before .before .before .pre))) in
-    let w = c .before .before .before .before .before .before .before .before .before .before .before .before .before .before .before .loop .inv .1 .beside in
+    let wi = c .before .before .before .before .before .before .before .before .before .before .before .within in
+    let m : wi .result < 64 = rw (wi .ensures) (within-small _ _ (tested-short (c .before .before .before .before .before .before .before .before .before .before .before .before .before .before .before .before .before .before .before .before .before .before .before .args .b) (c .before .before .before .before .before .before .before .before .before .before .before .before .before .before .before .before .before .before .before .before .before .before .before .pre))) in
+    let w = c .before .before .before .before .before .before .before .before .before .before .before .before .before .before .before .before .loop .inv .1 .beside in
     omega (arith, m, w .long, w .wide, w .broad)
 
 mul-held : tie.Need-mul-held Inv-loop μ-loop
 mul-held c =
-    let wi = c .before .before .before .before .before .before .before .before .before .before .before .before .within in
-    let m : wi .result < 64 = rw (wi .ensures) (within-small _ _ (tested-short (c .before .before .before .before .before .before .before .before .before .before .before .before .before .before .before .before .before .before .before .before .before .before .before .before .args .b) (c .before .before .before .before .before .before .before .before .before .before .before .before .before .before .before .before .before .before .before .before .before .before .before .before .pre))) in
-    let w = c .before .before .before .before .before .before .before .before .before .before .before .before .before .before .before .before .before .loop .inv .1 .beside in
+    let wi = c .before .before .before .before .before .before .before .before .before .before .before .before .before .within in
+    let m : wi .result < 64 = rw (wi .ensures) (within-small _ _ (tested-short (c .before .before .before .before .before .before .before .before .before .before .before .before .before .before .before .before .before .before .before .before .before .before .before .before .before .args .b) (c .before .before .before .before .before .before .before .before .before .before .before .before .before .before .before .before .before .before .before .before .before .before .before .before .before .pre))) in
+    let w = c .before .before .before .before .before .before .before .before .before .before .before .before .before .before .before .before .before .before .loop .inv .1 .beside in
     omega (arith, m, w .long, w .wide, w .broad)
 
 array-write-held : tie.Need-array-write-held Inv-loop μ-loop
 array-write-held c =
-    let wi = c .before .before .before .before .before .before .before .before .before .before .before .before .within in
-    let m : wi .result < 64 = rw (wi .ensures) (within-small _ _ (tested-short (c .before .before .before .before .before .before .before .before .before .before .before .before .before .before .before .before .before .before .before .before .before .before .before .before .args .b) (c .before .before .before .before .before .before .before .before .before .before .before .before .before .before .before .before .before .before .before .before .before .before .before .before .pre))) in
-    let w = c .before .before .before .before .before .before .before .before .before .before .before .before .before .before .before .before .before .loop .inv .1 .beside in
+    let wi = c .before .before .before .before .before .before .before .before .before .before .before .before .before .within in
+    let m : wi .result < 64 = rw (wi .ensures) (within-small _ _ (tested-short (c .before .before .before .before .before .before .before .before .before .before .before .before .before .before .before .before .before .before .before .before .before .before .before .before .before .args .b) (c .before .before .before .before .before .before .before .before .before .before .before .before .before .before .before .before .before .before .before .before .before .before .before .before .before .pre))) in
+    let w = c .before .before .before .before .before .before .before .before .before .before .before .before .before .before .before .before .before .before .loop .inv .1 .beside in
     omega (arith, m, w .long, w .wide, w .broad)
 
 add-done-2 : tie.Need-add-done-2 Inv-loop μ-loop
-add-done-2 c = omega (arith, c .before .before .before .before .before .before .before .before .before .before .before .before .before .before .before .before .before .before .loop, c .before .before .before .before .before .before .before .before .before .before .before .before .before .before .before .before .before .loop-test, c .before .before .before .before .before .before .before .before .before .before .before .before .before .before .before .before .before .before .before .before .before .before .before .before .before .good)
+add-done-2 c = omega (arith, c .before .before .before .before .before .before .before .before .before .before .before .before .before .before .before .before .before .before .before .loop, c .before .before .before .before .before .before .before .before .before .before .before .before .before .before .before .before .before .before .loop-test, c .before .before .before .before .before .before .before .before .before .before .before .before .before .before .before .before .before .before .before .before .before .before .before .before .before .before .good)
 
 add-k : tie.Need-add-k Inv-loop μ-loop
 add-k c = omega (arith, c .before .before .before .before .before .before .before .before .before .before .loop, c .before .before .before .before .before .before .before .before .before .loop-test, c .before .before .before .before .before .before .before .before .before .before .before .before .before .before .before .before .before .good)
@@ -207,11 +221,11 @@ loop-again c =
     joined b (a .args .events .now) (length (a .args .events .now) / 24) (v .k + 1) (v .calls) (y .5 .result) (v .free) (y .3 .result) (v .dues) (v .held) (v .done + 1) (v .refused) (y .6) (y .7) (y .8) (y .9) (y .10) (y .11) (y .12) (y .13) (more, playing-far b (a .args .events .now) (v .calls) (v .s) d (v .done) (v .refused) (v .k) w e (ev .ensures) (notes (v .free) (y .3 .result) (v .dues) (v .held)) _ (y .4 .result) soon (rw (y .5 .ensures) (turn-far (boardNow b (v .s) (v .calls)) d e h (w .beside) late seen refl (pl .ensures) there (id .ensures) (t .result) (t .ensures) (y .4 .result) (known .1) (y .4 .ensures))), rw (y .5 .ensures) (v .inv .2)))
     (λ y.
     let known = y .1 .given in
-    let x = y .2 .result in
+    let x = y .3 .result in
     let l = turn-there (boardNow b (v .s) (v .calls)) d e h (w .beside) late seen refl (pl .ensures) there (id .ensures) (t .result) (t .ensures) (known .1) in
     let i = near l in
-    let kept = beside-next (b .len) (v .calls) (v .free) (v .soon) (v .dues) (v .held) h (w .beside) (wi .result) _ _ _ _ (x .call) (rw i l) (rw (read-any (v .calls) (wi .result) unread freeCall (omega (arith, l, i, w .beside .long, h))) at (y .4 .ensures)) (y .5 .ensures) (y .6 .ensures) (y .7 .ensures) in
-    joined b (a .args .events .now) (length (a .args .events .now) / 24) (v .k + 1) (set (v .calls) (wi .result) (x .call)) (y .8 .result) (y .4 .result) (y .6 .result) (set (v .dues) (wi .result) (y .5 .result)) (set (v .held) (wi .result) (y .7 .result)) (v .done + 1) (v .refused) (y .9) (y .10) (y .11) (y .12) (y .13) (y .14) (y .15) (y .16) (more, playing-done b (a .args .events .now) (v .calls) (v .s) d (v .done) (v .refused) (v .k) w e (ev .ensures) _ (wi .result) _ x kept (rw (y .8 .ensures, i) (turn-done (boardNow b (v .s) (v .calls)) d e h (w .beside) late seen refl (pl .ensures) there (id .ensures) (t .result) (t .ensures) x (known .1) (y .2 .ensures))), rw (y .8 .ensures) (v .inv .2))))
+    let kept = beside-next (b .len) (v .calls) (v .free) (v .soon) (v .dues) (v .held) h (w .beside) (wi .result) _ _ _ _ (x .call) (rw i l) (rw (read-any (v .calls) (wi .result) unread freeCall (omega (arith, l, i, w .beside .long, h))) at (y .5 .ensures)) (y .6 .ensures) (y .7 .ensures) (y .8 .ensures) in
+    joined b (a .args .events .now) (length (a .args .events .now) / 24) (v .k + 1) (set (v .calls) (wi .result) (x .call)) (y .9 .result) (y .5 .result) (y .7 .result) (set (v .dues) (wi .result) (y .6 .result)) (set (v .held) (wi .result) (y .8 .result)) (v .done + 1) (v .refused) (y .10) (y .11) (y .12) (y .13) (y .14) (y .15) (y .16) (y .17) (more, playing-done b (a .args .events .now) (v .calls) (v .s) d (v .done) (v .refused) (v .k) w e (ev .ensures) _ (wi .result) _ x kept (rw (y .9 .ensures, i) (turn-done (boardNow b (v .s) (v .calls)) d e h (w .beside) late seen refl (pl .ensures) there (id .ensures) (t .result) (t .ensures) x (known .1) (y .3 .ensures))), rw (y .9 .ensures) (v .inv .2))))
     (c .match .came)
 
 returns : tie.Need-returns Inv-loop μ-loop
@@ -228,6 +242,6 @@ run-tested-spec =
     Inv-loop μ-loop (λ c κs. tested-short (c .before .before .before .args .b) (c .before .before .before .pre)) loop-holds (λ c. omega arith) (λ c κs. search needs) place-on-requires (λ c κs. tt) mul-c array-copy-out-c identifier-in-requires (λ c κs. tt)
     (λ c. search needs) add-refused
     (λ c. search needs) refresh-requires (λ c κs. tt) (λ c κs. tt) add-done
-    (λ c. search needs) acted-requires mul-calls array-set-from-calls flip-requires (λ c κs. tt) mul-dues array-write-dues (λ c κs. tt) (λ c κs. tt) mul-held array-write-held (λ c κs. tt) add-done-2
+    (λ c. search needs) mul-again array-copy-out-again acted-requires mul-calls array-set-from-calls flip-requires (λ c κs. tt) mul-dues array-write-dues (λ c κs. tt) (λ c κs. tt) mul-held array-write-held (λ c κs. tt) add-done-2
     add-k loop-less loop-again
     returns)
