@@ -139,10 +139,11 @@ fn note_open(v: Noted, c: Call, i: usize, q: Asked) -> Noted
     let clash = clash_with(v.clash, v.marks, p);
     let due = due_with(v.due, p, i, q.by);
     let marks = marks_with(v.marks, p);
+    let w = with_soundness(v, well);
     Noted {
-        sound: well & v.sound,
+        sound: w.sound,
         clash: clash,
-        free: v.free,
+        free: w.free,
         due: due,
         marks: marks,
     }
@@ -178,12 +179,13 @@ fn note_free(v: Noted, c: Call, i: usize) -> Noted
 {
     let well = sound::sound_free(c);
     let free = free_with(v.free, c, i);
+    let w = with_soundness(v, well);
     Noted {
-        sound: well & v.sound,
-        clash: v.clash,
+        sound: w.sound,
+        clash: w.clash,
         free: free,
-        due: v.due,
-        marks: v.marks,
+        due: w.due,
+        marks: w.marks,
     }
 }
 
