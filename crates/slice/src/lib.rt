@@ -14,7 +14,7 @@ pub fn fit(len: usize) -> usize
     if len <= 64 { len } else { 0 }
 }
 
-// The record at a place.
+// The record at a place that is in the slice: `survey` reads one more than once.
 pub fn read(table: &[Call], i: usize) -> Call
     requires { ⌜ i < length (now table) ⌝ }
     ensures { λ r. ⌜ r ≡ getD (now (table .entry)) i freeCall ⌝ }

@@ -12,7 +12,7 @@ use Rattle.call.specs.declared.Call.{Call}
 use Rattle.call.specs.Record.{isFree, isOutgoing, isIncoming, invoked, requested}
 use Rattle.call.specs.Soundness.{exactly, only, outgoingUnused, incomingUnused, ownThere, cdfHolds, numbersHold, requestHolds, identifierThere, excludes, waitHolds, startHolds, soundIncoming, waitingHolds, historyHolds, divertHolds, soundOutgoing, soundCall}
 use Rattle.sound.specs.Words.{codesWord}
-use Rattle.sound.specs.Cases.{divertedBy, fitting, closedBy, requestBy, incomingBase, incomingRest, openBy, incomingBy, outgoingBase, toldBy, waitingBy, outgoingBy, freeBy}
+use Rattle.sound.specs.Cases.{divertedBy, closedBy, requestBy, incomingBase, incomingRest, openBy, incomingBy, outgoingBase, toldBy, waitingBy, outgoingBy, freeBy}
 
 and-true : (a : Bool) → a && true ≡ a
 and-true true = refl
@@ -71,17 +71,6 @@ fits-known (suc (suc (suc (suc n)))) basic =
     let a : eqb (suc (suc (suc (suc n)))) 3 ≡ false = ne-eqb (suc (suc (suc (suc n)))) 3 (λ (e : suc (suc (suc (suc n))) ≡ 3). absurd (omega (arith, e))) in
     let b : leb (suc (suc (suc (suc n)))) 3 ≡ false = lt-leb (suc (suc (suc (suc n)))) 3 (omega arith) in
     rw (a, b, over-1 (suc (suc n)), over-2 (suc n))
-
--- by the one state that a reason fits
-pub fits-one : (reason basic : ℕ) → (leb 1 reason && leb reason 3 && eqb basic (fitting reason)) ≡ fitsIn reason basic
-fits-one zero basic = refl
-fits-one (suc zero) basic = by-cases (eqb basic 1) (λ t. rw t) (λ f. rw f)
-fits-one (suc (suc zero)) basic = by-cases (eqb basic 1) (λ t. rw t) (λ f. rw f)
-fits-one (suc (suc (suc zero))) basic = refl
-fits-one (suc (suc (suc (suc n)))) basic =
-    let a : eqb (suc (suc (suc (suc n)))) 3 ≡ false = ne-eqb (suc (suc (suc (suc n)))) 3 (λ (e : suc (suc (suc (suc n))) ≡ 3). absurd (omega (arith, e))) in
-    let b : leb (suc (suc (suc (suc n)))) 3 ≡ false = lt-leb (suc (suc (suc (suc n)))) 3 (omega arith) in
-    rw (a, b, over-1 (suc (suc n)), over-2 (suc n)) (ap (λ (x : Bool). x && eqb basic 1) (and-false (leb 1 (suc (suc (suc (suc n)))))))
 
 open-case : (l nb f n st : Bool) → (l && (nb && f)) ≡ f → (f && n && st) ≡ (l && true && n && (nb && f) && st)
 open-case true nb f true st h = rw (h, and-true f)
@@ -199,7 +188,7 @@ incoming-same : (last : ℕ) (c : Call) → requested c ≡ false → incomingBy
 incoming-same last c f =
     ap (λ (b : Bool). when incomingBase c then b else false) (either c) ∙ two-tests (incomingBase c) (divertedBy c) (closedBy c) ∙ (rw f at (incoming-all last c))
 
--- with CDR Invoked, and where none waits
+-- with CDR Invoked, and outside it
 outgoing-all : (c : Call) → (when outgoingBase c then (when waitingHolds c then toldBy c else false) else false) ≡ soundOutgoing c
 unfolding soundOutgoing
 outgoing-all c = three-tests (outgoingBase c) (waitingHolds c) (historyHolds (c .history)) (divertHolds c)

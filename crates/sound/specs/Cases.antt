@@ -3,11 +3,10 @@ use mathlib.Core.Bool.{Bool, false, _&&_, _||_, not}
 use Prim.Native.Nat.{ℕ}
 use lib.Dec.{eqb, leb}
 use Rattle.ground.specs.Choice.{when_then_else_}
-use Rattle.event.specs.Kinds.{cfnr}
 use Rattle.notice.specs.Notice.{unmarked}
 use Rattle.waits.specs.Soundness.{waitsUnused, waitsHold}
 use Rattle.call.specs.declared.Call.{Call}
-use Rattle.call.specs.Record.{Proceeding, Received, Active, Idle, CdfDone, isFree, active, delivered, cdfNone, wait, granted, undiverted, fits}
+use Rattle.call.specs.Record.{Proceeding, Active, Idle, CdfDone, isFree, active, delivered, cdfNone, wait, granted, undiverted, fits}
 use Rattle.call.specs.Soundness.{incomingUnused, outgoingUnused, outgoingCodes, ownThere, partyThere, historyHolds, divertHolds, startHolds}
 use Rattle.sound.specs.Words.{codesWord}
 
@@ -25,11 +24,7 @@ incomingBase c = outgoingUnused c && (leb Proceeding (c .basic) && leb (c .basic
 abbrev pub incomingRest : Call → Bool
 incomingRest c = eqb (c .diverting) 0 && eqb (c .original) 0 && (eqb (c .reason) 0 && eqb (c .identifier) 0 && eqb (c .start) 0)
 
--- the basic state that a reason fits: "cfu and cfb Proceeding, cfnr Received"
-abbrev pub fitting : ℕ → ℕ
-fitting reason = when eqb reason cfnr then Received else Proceeding
-
--- no request is open: one was granted, or none
+-- no request is open: one was granted, or none was
 abbrev pub closedBy : Call → Bool
 closedBy c =
     when granted c then (when eqb (c .cds) Idle && eqb (c .identifier) 0 && eqb (c .start) 0 then fits (c .reason) c else false) else
@@ -62,10 +57,10 @@ toldBy c = when historyHolds (c .history) then divertHolds c else false
 abbrev pub waitingBy : Call → Bool
 waitingBy c = when outgoingBase c then (when delivered c && waitsHold (c .waiting) then toldBy c else false) else false
 
--- one in which none waits
+-- one outside Invoked, in which none may wait
 abbrev pub outgoingBy : Call → Bool
 outgoingBy c = when outgoingBase c then (when waitsUnused (c .waiting) then toldBy c else false) else false
 
--- a free record; one of no direction is not sound
+-- a free record; one whose direction is out of range is not sound
 abbrev pub freeBy : Call → Bool
 freeBy c = isFree c && (eqb (c .basic) 0 && outgoingUnused c && incomingUnused c)

@@ -1,11 +1,11 @@
-// "What a record may hold": when one record is sound, by cases that each look at few fields: the walk over a lent table reads a record anew in each. Fields
-// that are unused are tested together, by words.
+// "What a record may hold": when one record is sound, by cases that each look at few fields, since the walk over a lent table reads a record anew in each.
+// Fields that are unused are tested together, by words.
 ghost use mathlib.Core.Path.{_≡_};
 ghost use mathlib.Core.Bool.{_&&_};
 ghost use Rattle.waits.specs.Soundness.{waitsHold};
-ghost use Rattle.call.specs.Record.{delivered, fits};
+ghost use Rattle.call.specs.Record.{delivered};
 ghost use Rattle.call.specs.Soundness.{historyUnused, outgoingUnused, incomingUnused, outgoingCodes, historyHolds, divertHolds, soundCall};
-ghost use Rattle.sound.specs.Cases.{divertedBy, fitting, closedBy, requestBy, incomingBase, incomingRest, openBy, incomingBy, outgoingBase, toldBy, waitingBy, outgoingBy, freeBy};
+ghost use Rattle.sound.specs.Cases.{divertedBy, closedBy, requestBy, incomingBase, incomingRest, openBy, incomingBy, outgoingBase, toldBy, waitingBy, outgoingBy, freeBy};
 ghost use Rattle.sound.specs.Words.{legsWord, partyWord, codesWord, numbersWord};
 use call::Call;
 use notice::History;
@@ -93,23 +93,7 @@ fn diverted_holds(c: Call) -> bool
     (counter <= 15) & ((cdf == 2) | ((cdf == 1) & !(c.basic == 3)))
 }
 
-// The basic state that a reason fits.
-fn fitting(reason: u8) -> u8
-    ensures { λ r. ⌜ r ≡ fitting reason ⌝ }
-{
-    if reason == 3 { 2 } else { 1 }
-}
-
-// "their reason fits the basic state": what `reasons::fits` says, in fewer instructions.
-fn reason_fits(c: Call) -> bool
-    ensures { λ r. ⌜ r ≡ fits (c .reason) c ⌝ }
-{
-    let reason = c.reason;
-    let basic = fitting(reason);
-    (1 <= reason) & (reason <= 3) & (c.basic == basic)
-}
-
-// No request is open: one was granted, or none.
+// No request is open: one was granted, or none was.
 fn closed_holds(c: Call) -> bool
     ensures { λ r. ⌜ r ≡ closedBy c ⌝ }
 {
@@ -117,7 +101,7 @@ fn closed_holds(c: Call) -> bool
     let granted = c.granted;
     if granted == 1 {
         if (cds == 0) & (c.identifier == 0) & (c.start == 0) {
-            return reason_fits(c);
+            return reasons::fits(c.reason, c);
         }
         return false;
     }
@@ -129,7 +113,7 @@ fn request_holds(c: Call, last: u64) -> bool
     ensures { λ r. ⌜ r ≡ requestBy last c ⌝ }
 {
     if (c.granted == 0) & !(c.identifier == 0) & (c.start <= last) {
-        return reason_fits(c);
+        return reasons::fits(c.reason, c);
     }
     false
 }
@@ -250,7 +234,7 @@ pub fn sound_waiting(c: Call) -> bool
     false
 }
 
-// of one in which none waits.
+// of one outside Invoked, in which none may wait.
 pub fn sound_outgoing(c: Call) -> bool
     ensures { λ r. ⌜ r ≡ outgoingBy c ⌝ }
 {
@@ -264,7 +248,7 @@ pub fn sound_outgoing(c: Call) -> bool
     false
 }
 
-// "A record is free": each field is 0. One of no direction is unsound.
+// "A record is free": each field is 0. One whose direction is out of range is unsound.
 pub fn sound_free(c: Call) -> bool
     ensures { λ r. ⌜ r ≡ freeBy c ⌝ }
 {

@@ -1,4 +1,4 @@
--- What the walk of `survey` cites: `unseen` and `note_at` meet their contracts, and what is noted and what is asked are machine values.
+-- What the walk of `survey` cites: `unseen` and `note_at` meet their contracts.
 -- Assumes nothing.
 use mathlib.Core.Path.{_≡_, refl}
 use Prim.Native.Nat.{ℕ, _<_, _^_}

@@ -1,4 +1,4 @@
--- What is noted with the four requests of a station: where no mark was set twice no two open requests of both tables share an identifier. Assumes nothing.
+-- What is noted with the four requests of a station: where each record is sound and no mark was set twice no two open requests of both tables share an identifier. Assumes nothing.
 use Prim.Native.Nat.{ℕ}
 use mathlib.Core.Bool.{true, false}
 use mathlib.Core.List.{List, [], _∷_, _++_, append-assoc, append-nil}

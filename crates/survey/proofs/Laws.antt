@@ -1,5 +1,5 @@
--- What a survey says, by the definitions that a step cites: are all records sound, the lowest free and the lowest due place, and that no two requests share an identifier where no mark
--- was set twice. Assumes nothing.
+-- What a survey says, by the definitions that a step cites: are all records sound, the lowest free place, and, where all are sound, the lowest due place and that no two requests share
+-- an identifier if no mark was set twice. Assumes nothing.
 use Prim.Native.Nat.{ℕ, suc, _+_, _-_, _%_, _≤_, _<_}
 use mathlib.Core.Bool.{Bool, true, false, _&&_, _||_, false≢true}
 use mathlib.Core.List.{List, [], _∷_}

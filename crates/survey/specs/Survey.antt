@@ -74,7 +74,7 @@ notedOpen q v c i = record {
   marks = marksWith (v .marks) (requestOf c);
 }
 
--- and of what is no call that it is free
+-- and of what is no call also whether it is free
 abbrev pub notedFree : Noted → Call → ℕ → Noted
 notedFree v c i = record { sound = freeBy c && v .sound; clash = v .clash; free = freeWith (v .free) c i; due = v .due; marks = v .marks }
 

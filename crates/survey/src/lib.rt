@@ -117,7 +117,7 @@ fn unseen(n: usize) -> Noted
     }
 }
 
-// What is noted with a record that is not free and has no open request.
+// What is noted with every record: whether it is sound. All else stays.
 fn with_soundness(v: Noted, well: bool) -> Noted
     ensures { λ r. ⌜ r ≡ withSoundness v well ⌝ }
 {
@@ -165,7 +165,7 @@ fn note_waiting(v: Noted, c: Call) -> Noted
     with_soundness(v, well)
 }
 
-// an outgoing call in which none waits,
+// an outgoing call outside Invoked,
 fn note_outgoing(v: Noted, c: Call) -> Noted
     ensures { λ r. ⌜ r ≡ withSoundness v (outgoingBy c) ⌝ }
 {
