@@ -11,6 +11,7 @@ use lib.Seq.{take-length}
 use Rattle.ground.specs.Choice.{when_then_else_}
 use Rattle.ground.specs.Lists.{first, all}
 use Rattle.ground.proofs.Bools.{by-cases, is-true, is-false}
+use Rattle.ground.proofs.Walks.{and-false}
 use Rattle.event.specs.declared.Event.{Event}
 use Rattle.event.specs.Kinds.{diverts}
 use Rattle.event.specs.Remote.{asks}
@@ -113,12 +114,6 @@ module _ (input : Input) (ys : List Call) where
   free-place : Whole .free ≡ first isFree ys
   free-place = let h = survey-free (askedOf input) (length ys) 0 ys (omega arith) in omega (arith, h)
 
-  due-place : Whole .due ≡ first (due (e .time)) ys
-  due-place = let h = survey-due (askedOf input) (length ys) (e .time) 0 ys refl (omega arith) in omega (arith, h)
-
-  same-place : placeSeen Whole input ≡ place ys e
-  same-place = rw (free-place, due-place)
-
   abbrev p : Pendings
   p = pendingIn input
 
@@ -128,40 +123,67 @@ module _ (input : Input) (ys : List Call) where
   column-drawn : request ≡ true → identifierIn e (columnOf (length ys) ys) p (s .next) ≡ identifierFor s ys
   column-drawn d = rw d (joined-free 69 (over (length ys) ys frees) p (s .next) ∙ rw (requests-over (length ys) ys, take-length ys))
 
-  all-apart : apartIn (joinedOf (columnOf (length ys) ys) p) ≡ distinct (openIdentifiers s ys)
-  all-apart = column-apart (length ys) ys p ∙ rw (take-length ys)
-
-  no-clash : clashIn Whole input ≡ false → true ≡ distinct (openIdentifiers s ys)
-  no-clash f = sym (four-clash (askedOf input) (length ys) 0 ys p f)
-
-  -- what is picked: no two identifiers are the same, and a request's is the definition's
-  chosen-apart : Chosen .apart ≡ distinct (openIdentifiers s ys)
-  chosen-apart =
-      by-cases (clashIn Whole input)
-      (λ t. rw t all-apart)
-      (λ f. by-cases request (λ d. rw (f, d) (no-clash f)) (λ d. rw (f, d) (no-clash f)))
-
   chosen-drawn : request ≡ true → Chosen .identifier ≡ identifierFor s ys
   chosen-drawn d = by-cases (clashIn Whole input) (λ t. rw t (column-drawn d)) (λ f. rw (f, d) (rw d at (column-drawn d)))
 
-  sees-table : Sees s ys e (seenBy input Whole (length ys) Chosen (at ys (placeSeen Whole input)))
-  sees-table = record {
-    size = refl;
-    near = λ l. same-place;
-    far = λ l. rw same-place l;
-    there = λ l. refl;
-    drawn = chosen-drawn;
-  }
+  all-apart : apartIn (joinedOf (columnOf (length ys) ys) p) ≡ distinct (openIdentifiers s ys)
+  all-apart = column-apart (length ys) ys p ∙ rw (take-length ys)
 
-  -- the test behind number 1
-  tested : inBounds (length ys) s && Whole .sound && Chosen .apart ≡ sound s ys
+  -- where each record is sound, what is noted is the definition's
+  module _ (well : all (soundCall (s .last)) ys ≡ true) where
+    due-place : Whole .due ≡ first (due (e .time)) ys
+    due-place = let h = survey-due (askedOf input) (length ys) (e .time) 0 ys well refl (omega arith) in omega (arith, h)
+
+    same-place : placeSeen Whole input ≡ place ys e
+    same-place = rw (free-place, due-place)
+
+    no-clash : clashIn Whole input ≡ false → true ≡ distinct (openIdentifiers s ys)
+    no-clash f = sym (four-clash (askedOf input) (length ys) 0 ys p well f)
+
+    -- what is picked: no two identifiers are the same, and a request's is the definition's
+    chosen-apart : Chosen .apart ≡ distinct (openIdentifiers s ys)
+    chosen-apart =
+        by-cases (clashIn Whole input)
+        (λ t. rw t all-apart)
+        (λ f. by-cases request (λ d. rw (f, d) (no-clash f)) (λ d. rw (f, d) (no-clash f)))
+
+    sees-table : Sees s ys e (seenBy input Whole (length ys) Chosen (at ys (placeSeen Whole input)))
+    sees-table = record {
+      size = refl;
+      near = λ l. same-place;
+      far = λ l. rw same-place l;
+      there = λ l. refl;
+      drawn = chosen-drawn;
+    }
+
+    -- the test behind number 1
+    tested : inBounds (length ys) s && Whole .sound && Chosen .apart ≡ sound s ys
+    unfolding sound
+    tested =
+        rw (chosen-apart, survey-sound (askedOf input) (length ys) 0 ys)
+        (regroup (leb 1 (length ys) && leb (length ys) 64) (stationOk s) (all (soundCall (s .last)) ys) (distinct (openIdentifiers s ys)))
+
+    sound-is : decisionBy input Whole (length ys) Chosen (at ys (placeSeen Whole input)) ≡ decisionOn s ys e
+    sound-is = by-test s ys e (seenBy input Whole (length ys) Chosen (at ys (placeSeen Whole input))) sees-table same-place _ tested
+
+  -- and where one is not, the event is refused with 1, whatever else is noted
+  unsound : all (soundCall (s .last)) ys ≡ false → sound s ys ≡ false
   unfolding sound
-  tested =
-      rw (chosen-apart, survey-sound (askedOf input) (length ys) 0 ys)
-      (regroup (leb 1 (length ys) && leb (length ys) 64) (stationOk s) (all (soundCall (s .last)) ys) (distinct (openIdentifiers s ys)))
+  unsound f = rw f (and-false ((leb 1 (length ys) && leb (length ys) 64) && stationOk s))
+
+  unsound-is : all (soundCall (s .last)) ys ≡ false → decisionBy input Whole (length ys) Chosen (at ys (placeSeen Whole input)) ≡ decisionOn s ys e
+  unfolding decisionOn decidedOf
+  unsound-is f =
+      let t : inBounds (length ys) s && Whole .sound && Chosen .apart ≡ false = lost (inBounds (length ys) s) (Whole .sound) (Chosen .apart) (survey-sound (askedOf input) (length ys) 0 ys ∙ f) in
+      let u : sound s ys ≡ false = unsound f in
+      rw (t, u)
+    where
+      lost : (a b d : Bool) → b ≡ false → a && b && d ≡ false
+      lost true b d h = rw h
+      lost false b d h = refl
 
   short-is : decisionBy input Whole (length ys) Chosen (at ys (placeSeen Whole input)) ≡ decisionOn s ys e
-  short-is = by-test s ys e (seenBy input Whole (length ys) Chosen (at ys (placeSeen Whole input))) sees-table same-place _ tested
+  short-is = by-cases (all (soundCall (s .last)) ys) sound-is unsound-is
 
 -- ---- a table over 64 records is refused as the empty one is
 module _ (input : Input) (ys : List Call) (h : 64 < length ys) where

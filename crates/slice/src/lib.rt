@@ -1,7 +1,8 @@
 // A host lends the table of calls as a slice of records: what of it is worked on, one record of it, and the one record that an event changes.
 ghost use mathlib.Core.Path.{_≡_};
-ghost use Prim.Native.Nat.{_+_, _≤_};
-ghost use lib.ListN.{length, take};
+ghost use Prim.Native.Nat.{_+_, _≤_, _<_};
+ghost use lib.ListN.{length, take, getD};
+ghost use Rattle.call.specs.Record.{freeCall};
 ghost use Rattle.station.specs.Table.{at};
 ghost use Rattle.slice.specs.Table.{fitOf, settledAt};
 use call::Call;
@@ -11,6 +12,14 @@ pub fn fit(len: usize) -> usize
     ensures { λ r. ⌜ r ≡ fitOf len ⌝ }
 {
     if len <= 64 { len } else { 0 }
+}
+
+// The record at a place that is in the slice: `survey` reads one more than once.
+pub fn read(table: &[Call], i: usize) -> Call
+    requires { ⌜ i < length (now table) ⌝ }
+    ensures { λ r. ⌜ r ≡ getD (now (table .entry)) i freeCall ⌝ }
+{
+    table[i]
 }
 
 // The record at a place among the first n; a free one past them.

@@ -1,18 +1,18 @@
 -- The cases say the same as the page's conjunction. Assumes nothing.
-use Prim.Native.Nat.{ℕ, zero, suc, _<_}
+use Prim.Native.Nat.{ℕ, zero, suc}
 use mathlib.Core.Bool.{Bool, true, false, _&&_, _||_, not, false≢true}
 use mathlib.Core.Path.{_≡_, refl, sym, ap, _∙_}
 use native.Mathlib.Omega.{arith}
 use borrow.Author.Tests.{ne-eqb, eqb-true, lt-leb, le-leb}
-use lib.Dec.{T, eqb, leb, ltb, ltb→lt}
+use lib.Dec.{T, eqb, leb}
 use Rattle.ground.specs.Choice.{when_then_else_}
-use Rattle.ground.proofs.Bools.{by-cases, and-l, and-r, and-i}
-use Rattle.ground.proofs.Walks.{and-false, both}
-use Rattle.waits.specs.Soundness.{waitsUnused}
+use Rattle.ground.proofs.Bools.{by-cases, is-true, from-true, and-l, and-r, and-i}
+use Rattle.ground.proofs.Walks.{and-false}
 use Rattle.call.specs.declared.Call.{Call}
-use Rattle.call.specs.Soundness.{exactly, only, outgoingUnused, ownThere, cdfHolds, numbersHold, requestHolds, identifierThere, excludes, waitHolds, startHolds, soundIncoming, waitingHolds, historyHolds, divertHolds, soundOutgoing}
-use Rattle.sound.specs.Words.{legsWord, partyWord, codesWord}
-use Rattle.sound.specs.Cases.{divertedBy, requestBy, incomingBase, incomingRest, incomingBy, outgoingBase, outgoingPlain, outgoingBy}
+use Rattle.call.specs.Record.{isFree, isOutgoing, isIncoming, invoked, requested}
+use Rattle.call.specs.Soundness.{exactly, only, outgoingUnused, incomingUnused, ownThere, cdfHolds, numbersHold, requestHolds, identifierThere, excludes, waitHolds, startHolds, soundIncoming, waitingHolds, historyHolds, divertHolds, soundOutgoing, soundCall}
+use Rattle.sound.specs.Words.{codesWord}
+use Rattle.sound.specs.Cases.{divertedBy, closedBy, requestBy, incomingBase, incomingRest, openBy, incomingBy, outgoingBase, toldBy, waitingBy, outgoingBy, freeBy}
 
 and-true : (a : Bool) → a && true ≡ a
 and-true true = refl
@@ -139,9 +139,12 @@ mix : (o b1 b3 lc lf lg ln lr own ch nh rh ih eh wh sh : Bool)
     ≡ (o && (b1 && b3 && lc && lf && lg && ln && lr) && own && ch && nh && rh && ih && eh && wh && sh)
 mix o b1 b3 lc lf lg ln lr own ch nh rh ih eh wh sh = iff _ _ (λ h. search (and-i, and-l, and-r) depth 24) (λ h. search (and-i, and-l, and-r) depth 24)
 
--- "What a record may hold", of an incoming call, by cases
+-- "What a record may hold", of an incoming call, by cases: a request is open, one was granted, or neither
+abbrev eitherBy : ℕ → Call → Bool
+eitherBy last c = when requested c then requestBy last c else closedBy c
+
 incoming-all : (last : ℕ) (c : Call)
-    → (outgoingUnused c && (leb 1 (c .basic) && leb (c .basic) 3) && not (eqb (c .own) 0) && divertedBy c && requestBy last c) ≡ soundIncoming last c
+    → (outgoingUnused c && (leb 1 (c .basic) && leb (c .basic) 3) && not (eqb (c .own) 0) && divertedBy c && eitherBy last c) ≡ soundIncoming last c
 unfolding soundIncoming
 incoming-all last c =
     rw (diverted-same (c .counter) (c .cdf) (c .basic) (eqb (c .diverting) 0 && eqb (c .original) 0), request-same (c .cds) (c .granted) (c .reason) (c .basic) (c .start) last (eqb (c .identifier) 0))
@@ -165,8 +168,8 @@ both-if : (a b : Bool) → (when a then b else false) ≡ (a && b)
 both-if true b = refl
 both-if false b = refl
 
-short : (last : ℕ) (c : Call) → eqb (codesWord c) 0 ≡ true → incomingRest c ≡ (when divertedBy c then requestBy last c else false)
-short last c t =
+short : (c : Call) → eqb (codesWord c) 0 ≡ true → incomingRest c ≡ (when divertedBy c then closedBy c else false)
+short c t =
     let w : codesWord c ≡ 0 = eqb-true (codesWord c) 0 t in
     let e₀ : c .cds ≡ 0 = omega (arith, w) in
     let e₁ : c .cdf ≡ 0 = omega (arith, w) in
@@ -174,40 +177,68 @@ short last c t =
     let e₃ : c .counter ≡ 0 = omega (arith, w) in
     rw (e₀, e₁, e₂, e₃) (sym (both-if (eqb (c .diverting) 0 && eqb (c .original) 0) (eqb (c .reason) 0 && eqb (c .identifier) 0 && eqb (c .start) 0)))
 
-either : (last : ℕ) (c : Call) → (when eqb (codesWord c) 0 then incomingRest c else when divertedBy c then requestBy last c else false) ≡ (when divertedBy c then requestBy last c else false)
-either last c = by-cases (eqb (codesWord c) 0) (λ t. rw t (short last c t)) (λ f. rw f)
+either : (c : Call) → (when eqb (codesWord c) 0 then incomingRest c else when divertedBy c then closedBy c else false) ≡ (when divertedBy c then closedBy c else false)
+either c = by-cases (eqb (codesWord c) 0) (λ t. rw t (short c t)) (λ f. rw f)
 
-pub incoming-same : (last : ℕ) (c : Call) → incomingBy last c ≡ soundIncoming last c
-incoming-same last c = ap (λ (b : Bool). when incomingBase c then b else false) (either last c) ∙ two-tests (incomingBase c) (divertedBy c) (requestBy last c) ∙ incoming-all last c
+-- with an open request, and without
+open-same : (last : ℕ) (c : Call) → requested c ≡ true → openBy last c ≡ soundIncoming last c
+open-same last c t = two-tests (incomingBase c) (divertedBy c) (requestBy last c) ∙ (rw t at (incoming-all last c))
 
-abbrev long : Call → Bool
-long c = when waitingHolds c then (when historyHolds (c .history) then divertHolds c else false) else false
+incoming-same : (last : ℕ) (c : Call) → requested c ≡ false → incomingBy c ≡ soundIncoming last c
+incoming-same last c f =
+    ap (λ (b : Bool). when incomingBase c then b else false) (either c) ∙ two-tests (incomingBase c) (divertedBy c) (closedBy c) ∙ (rw f at (incoming-all last c))
 
-itself : (b : Bool) → b ≡ when b then true else false
-itself true = refl
-itself false = refl
-
--- the short case of an outgoing call says the same
-plain-long : (c : Call) → outgoingPlain c ≡ true → waitsUnused (c .waiting) ≡ long c
-plain-long c t =
-    let p = both (eqb (legsWord c) 0) (ltb (partyWord c) 65536) t in
-    let l : legsWord c ≡ 0 = eqb-true (legsWord c) 0 (p .0) in
-    let w : partyWord c < 65536 = ltb→lt (partyWord c) 65536 (rw (p .1) tt) in
-    let e₀ : c .cdo ≡ 0 = omega (arith, l) in
-    let e₁ : c .cdr ≡ 0 = omega (arith, l) in
-    let e₂ : c .history .seen ≡ 0 = omega (arith, w) in
-    let e₃ : c .history .strictest ≡ 0 = omega (arith, w) in
-    let e₄ : c .history .forbidden ≡ 0 = omega (arith, w) in
-    let e₅ : c .history .shown ≡ 0 = omega (arith, w) in
-    let e₆ : c .history .nominated ≡ 0 = omega (arith, w) in
-    rw (e₀, e₁, e₂, e₃, e₄, e₅, e₆) (itself (waitsUnused (c .waiting)))
-
-either-out : (c : Call) → (when outgoingPlain c then waitsUnused (c .waiting) else long c) ≡ long c
-either-out c = by-cases (outgoingPlain c) (λ t. rw t (plain-long c t)) (λ f. rw f)
-
-outgoing-all : (c : Call) → (when outgoingBase c then long c else false) ≡ soundOutgoing c
+-- with CDR Invoked, and outside it
+outgoing-all : (c : Call) → (when outgoingBase c then (when waitingHolds c then toldBy c else false) else false) ≡ soundOutgoing c
 unfolding soundOutgoing
 outgoing-all c = three-tests (outgoingBase c) (waitingHolds c) (historyHolds (c .history)) (divertHolds c)
 
-pub outgoing-same : (c : Call) → outgoingBy c ≡ soundOutgoing c
-outgoing-same c = ap (λ (b : Bool). when outgoingBase c then b else false) (either-out c) ∙ outgoing-all c
+waiting-same : (c : Call) → invoked c ≡ true → waitingBy c ≡ soundOutgoing c
+waiting-same c t = rw t at (outgoing-all c)
+
+outgoing-same : (c : Call) → invoked c ≡ false → outgoingBy c ≡ soundOutgoing c
+outgoing-same c f = rw f at (outgoing-all c)
+
+-- ---- by direction
+module _ (last : ℕ) (c : Call) where
+  incoming-call : isIncoming c ≡ true → soundCall last c ≡ soundIncoming last c
+  unfolding soundCall
+  incoming-call d = let e : c .direction ≡ 2 = eqb-true (c .direction) 2 d in rw e
+
+  outgoing-call : isOutgoing c ≡ true → soundCall last c ≡ soundOutgoing c
+  unfolding soundCall
+  outgoing-call d = let e : c .direction ≡ 1 = eqb-true (c .direction) 1 d in rw e
+
+  pub sound-open : isIncoming c ≡ true → requested c ≡ true → openBy last c ≡ soundCall last c
+  sound-open d t = open-same last c t ∙ sym (incoming-call d)
+
+  pub sound-incoming : isIncoming c ≡ true → requested c ≡ false → incomingBy c ≡ soundCall last c
+  sound-incoming d f = incoming-same last c f ∙ sym (incoming-call d)
+
+  pub sound-waiting : isOutgoing c ≡ true → invoked c ≡ true → waitingBy c ≡ soundCall last c
+  sound-waiting d t = waiting-same c t ∙ sym (outgoing-call d)
+
+  pub sound-outgoing : isOutgoing c ≡ true → invoked c ≡ false → outgoingBy c ≡ soundCall last c
+  sound-outgoing d f = outgoing-same c f ∙ sym (outgoing-call d)
+
+  pub sound-free : isIncoming c ≡ false → isOutgoing c ≡ false → freeBy c ≡ soundCall last c
+  unfolding soundCall
+  sound-free d o = rw (d, o) (sym (both-if (isFree c) (eqb (c .basic) 0 && outgoingUnused c && incomingUnused c)))
+
+  -- by all cases
+  pub call-by : soundCall last c ≡ (when isIncoming c then (when requested c then openBy last c else incomingBy c) else when isOutgoing c then (when invoked c then waitingBy c else outgoingBy c) else freeBy c)
+  call-by =
+      by-cases (isIncoming c)
+      (λ d. by-cases (requested c) (λ t. rw (d, t) (sym (sound-open d t))) (λ f. rw (d, f) (sym (sound-incoming d f))))
+      (λ d. by-cases (isOutgoing c) (λ o. by-cases (invoked c) (λ t. rw (d, o, t) (sym (sound-waiting o t))) (λ f. rw (d, o, f) (sym (sound-outgoing o f)))) (λ o. rw (d, o) (sym (sound-free d o))))
+
+  -- only an incoming call has an open request
+  pub only-incoming : soundCall last c ≡ true → isIncoming c ≡ false → requested c ≡ false
+  unfolding soundCall soundOutgoing
+  only-incoming s d =
+      let none : (eqb (c .cds) 0 ≡ true) → requested c ≡ false = λ t. rw (eqb-true (c .cds) 0 t) refl in
+      by-cases (isFree c)
+      (λ t. let h = from-true _ (rw t at s) in none (is-true _ (search (and-l, and-r, h) depth 16)))
+      (λ f. by-cases (isOutgoing c)
+      (λ o. let h = from-true _ (rw (f, o) at s) in none (is-true _ (search (and-l, and-r, h) depth 24)))
+      (λ o. absurd (false≢true (rw (f, o, d) at s))))

@@ -6,7 +6,7 @@ use Rattle.call.specs.declared.Call.{Call}
 abbrev pub legsWord : Call → ℕ
 legsWord c = c .cdo + 256 * c .cdr
 
--- the party on leg 1, and the history: below 65536 only the party is there
+-- the party on leg 1, and the history
 abbrev pub partyWord : Call → ℕ
 partyWord c =
     c .party + 65536 * c .history .seen + 16777216 * c .history .strictest + 4294967296 * c .history .forbidden + 1099511627776 * c .history .shown

@@ -1,9 +1,11 @@
-// "What a record may hold": when one record is sound. By cases, so that each looks at few fields; fields that are unused are tested together, by words.
+// "What a record may hold": when one record is sound, by cases that each look at few fields, since the walk over a lent table reads a record anew in each.
+// Fields that are unused are tested together, by words.
 ghost use mathlib.Core.Path.{_≡_};
 ghost use mathlib.Core.Bool.{_&&_};
-ghost use lib.Dec.{eqb, leb};
-ghost use Rattle.call.specs.Soundness.{historyUnused, outgoingUnused, incomingUnused, outgoingCodes, waitingHolds, historyHolds, divertHolds, soundCall};
-ghost use Rattle.sound.specs.Cases.{divertedBy, requestBy, incomingBase, incomingRest, incomingBy, outgoingBase, outgoingPlain, outgoingBy};
+ghost use Rattle.waits.specs.Soundness.{waitsHold};
+ghost use Rattle.call.specs.Record.{delivered};
+ghost use Rattle.call.specs.Soundness.{historyUnused, outgoingUnused, incomingUnused, outgoingCodes, historyHolds, divertHolds, soundCall};
+ghost use Rattle.sound.specs.Cases.{divertedBy, closedBy, requestBy, incomingBase, incomingRest, openBy, incomingBy, outgoingBase, toldBy, waitingBy, outgoingBy, freeBy};
 ghost use Rattle.sound.specs.Words.{legsWord, partyWord, codesWord, numbersWord};
 use call::Call;
 use notice::History;
@@ -91,18 +93,12 @@ fn diverted_holds(c: Call) -> bool
     (counter <= 15) & ((cdf == 2) | ((cdf == 1) & !(c.basic == 3)))
 }
 
-// A request is open, one was granted, or neither. Whether the reason fits is asked last, and only of an open or a granted one: it costs most.
-fn request_holds(c: Call, last: u64) -> bool
-    ensures { λ r. ⌜ r ≡ requestBy last c ⌝ }
+// No request is open: one was granted, or none was.
+fn closed_holds(c: Call) -> bool
+    ensures { λ r. ⌜ r ≡ closedBy c ⌝ }
 {
     let cds = c.cds;
     let granted = c.granted;
-    if cds == 1 {
-        if (granted == 0) & !(c.identifier == 0) & (c.start <= last) {
-            return reasons::fits(c.reason, c);
-        }
-        return false;
-    }
     if granted == 1 {
         if (cds == 0) & (c.identifier == 0) & (c.start == 0) {
             return reasons::fits(c.reason, c);
@@ -110,6 +106,16 @@ fn request_holds(c: Call, last: u64) -> bool
         return false;
     }
     (cds == 0) & (granted == 0) & (c.reason == 0) & (c.identifier == 0) & (c.start == 0)
+}
+
+// What holds of an open request. Whether the reason fits is asked last: it costs most.
+fn request_holds(c: Call, last: u64) -> bool
+    ensures { λ r. ⌜ r ≡ requestBy last c ⌝ }
+{
+    if (c.granted == 0) & !(c.identifier == 0) & (c.start <= last) {
+        return reasons::fits(c.reason, c);
+    }
+    false
 }
 
 // What holds of each incoming call's record.
@@ -130,9 +136,22 @@ fn incoming_rest(c: Call) -> bool
         & ((c.reason == 0) & (c.identifier == 0) & (c.start == 0))
 }
 
-// "Incoming: .."
-fn sound_incoming(c: Call, last: u64) -> bool
-    ensures { λ r. ⌜ r ≡ incomingBy last c ⌝ }
+// "Incoming: ..", of a record with an open request;
+pub fn sound_open(c: Call, last: u64) -> bool
+    ensures { λ r. ⌜ r ≡ openBy last c ⌝ }
+{
+    if incoming_base(c) {
+        if diverted_holds(c) {
+            return request_holds(c, last);
+        }
+        return false;
+    }
+    false
+}
+
+// of one without.
+pub fn sound_incoming(c: Call) -> bool
+    ensures { λ r. ⌜ r ≡ incomingBy c ⌝ }
 {
     if incoming_base(c) {
         let codes = codes_word(c);
@@ -140,7 +159,7 @@ fn sound_incoming(c: Call, last: u64) -> bool
             return incoming_rest(c);
         }
         if diverted_holds(c) {
-            return request_holds(c, last);
+            return closed_holds(c);
         }
         return false;
     }
@@ -152,19 +171,6 @@ fn outgoing_codes(c: Call) -> bool
     ensures { λ r. ⌜ r ≡ outgoingCodes c ⌝ }
 {
     (1 <= c.basic) & (c.basic <= 3) & (c.cdo <= 1) & (c.cdr <= 1)
-}
-
-// "CDR is Invoked only in Delivered and with reason cfnr"; else no DLI1 waits.
-fn waiting_holds(c: Call) -> bool
-    ensures { λ r. ⌜ r ≡ waitingHolds c ⌝ }
-{
-    let waiting = c.waiting;
-    let delivered = c.basic == 2;
-    if c.cdr == 1 {
-        delivered & soundwaits::waits_hold(waiting)
-    } else {
-        soundwaits::waits_unused(waiting)
-    }
 }
 
 // A history of a call with a DLI1, or of one without.
@@ -196,43 +202,59 @@ fn outgoing_base(c: Call) -> bool
     unused & codes & !(c.party == 0)
 }
 
-// The short case: CDO and CDR Idle and no history, so that nothing may wait either.
-fn outgoing_plain(c: Call) -> bool
-    ensures { λ r. ⌜ r ≡ outgoingPlain c ⌝ }
-{
-    let legs = legs_word(c);
-    let party = party_word(c);
-    (legs == 0) & (party < 65536)
-}
-
-// "Outgoing: .."
-fn sound_outgoing(c: Call) -> bool
-    ensures { λ r. ⌜ r ≡ outgoingBy c ⌝ }
+// What holds of the history beside CDO.
+fn told_holds(c: Call) -> bool
+    ensures { λ r. ⌜ r ≡ toldBy c ⌝ }
 {
     let history = c.history;
+    if history_holds(history) {
+        return divert_holds(c);
+    }
+    false
+}
+
+// "CDR is Invoked only in Delivered and with reason cfnr"
+fn delivered_holds(c: Call) -> bool
+    ensures { λ r. ⌜ r ≡ (delivered c && waitsHold (c .waiting)) ⌝ }
+{
     let waiting = c.waiting;
+    (c.basic == 2) & soundwaits::waits_hold(waiting)
+}
+
+// "Outgoing: ..", of a record with CDR Invoked;
+pub fn sound_waiting(c: Call) -> bool
+    ensures { λ r. ⌜ r ≡ waitingBy c ⌝ }
+{
     if outgoing_base(c) {
-        if outgoing_plain(c) {
-            return soundwaits::waits_unused(waiting);
-        }
-        if waiting_holds(c) {
-            if history_holds(history) {
-                return divert_holds(c);
-            }
-            return false;
+        if delivered_holds(c) {
+            return told_holds(c);
         }
         return false;
     }
     false
 }
 
-// "A record is free": each field is 0.
-fn sound_free(c: Call) -> bool
-    ensures { λ r. ⌜ r ≡ (eqb (c .basic) 0 && outgoingUnused c && incomingUnused c) ⌝ }
+// of one outside Invoked, in which none may wait.
+pub fn sound_outgoing(c: Call) -> bool
+    ensures { λ r. ⌜ r ≡ outgoingBy c ⌝ }
+{
+    let waiting = c.waiting;
+    if outgoing_base(c) {
+        if soundwaits::waits_unused(waiting) {
+            return told_holds(c);
+        }
+        return false;
+    }
+    false
+}
+
+// "A record is free": each field is 0. One whose direction is out of range is unsound.
+pub fn sound_free(c: Call) -> bool
+    ensures { λ r. ⌜ r ≡ freeBy c ⌝ }
 {
     let outgoing = outgoing_unused(c);
     let incoming = incoming_unused(c);
-    (c.basic == 0) & outgoing & incoming
+    (c.direction == 0) & ((c.basic == 0) & outgoing & incoming)
 }
 
 // One record is sound, where the station's last time is given.
@@ -240,13 +262,17 @@ pub fn sound_call(c: Call, last: u64) -> bool
     ensures { λ r. ⌜ r ≡ soundCall last c ⌝ }
 {
     let direction = c.direction;
-    if direction == 0 {
-        sound_free(c)
-    } else if direction == 1 {
-        sound_outgoing(c)
-    } else if direction == 2 {
-        sound_incoming(c, last)
-    } else {
-        false
+    if direction == 2 {
+        if c.cds == 1 {
+            return sound_open(c, last);
+        }
+        return sound_incoming(c);
     }
+    if direction == 1 {
+        if c.cdr == 1 {
+            return sound_waiting(c);
+        }
+        return sound_outgoing(c);
+    }
+    sound_free(c)
 }

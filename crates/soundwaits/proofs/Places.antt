@@ -1,22 +1,22 @@
 -- One turn of a loop through the places behind the first, and what the walk through all of them tells. Assumes nothing.
 use Prim.Native.Nat.{ℕ, zero, suc, _+_, _≤_, _<_}
-use mathlib.Core.Bool.{Bool, true, _&&_}
+use mathlib.Core.Bool.{Bool, true, false, _&&_}
 use mathlib.Core.List.{List, [], _∷_}
 use mathlib.Core.Path.{_≡_, refl, sym, ap, _∙_}
 use native.Mathlib.Nat.{le-of-suc-le-suc, not-suc-le-zero}
 use native.Mathlib.Numerals.{add-one}
 use native.Mathlib.Omega.{arith}
 use lib.Dec.{eqb, leb}
-use borrow.Author.Tests.{le-leb, lt-leb, eq-eqb}
+use borrow.Author.Tests.{le-leb, lt-leb, eq-eqb, eqb-true}
 use lib.ListN.{length, getD, take, drop}
 use Rattle.ground.specs.Choice.{when_then_else_}
 use Rattle.ground.specs.Lists.{all}
-use Rattle.ground.proofs.Bools.{and-true, and-assoc}
+use Rattle.ground.proofs.Bools.{by-cases, and-true, and-assoc}
 use Rattle.ground.proofs.Zeros.{six}
 use Rattle.notice.specs.declared.Dli1.{Dli1}
 use Rattle.waits.specs.declared.Waits.{Waits}
 use Rattle.waits.specs.Waits.{behind}
-use Rattle.waits.specs.Soundness.{dli1Unused, laterHolds, laterHold, placeHolds}
+use Rattle.waits.specs.Soundness.{dli1Unused, firstHolds, laterHolds, placesThere, laterHold, laterUnused, waitsHold, placeHolds}
 use Rattle.soundwaits.specs.Words.{pairWord}
 
 -- two places side by side as one number
@@ -77,3 +77,16 @@ all-more′ p (x ∷ l) (suc i) d h = rw (all-more′ p l i d (le-of-suc-le-suc 
 pub all-more : {A : Type 0} (p : A → Bool) (l : List A) (i : ℕ) (d : A) (ok b : Bool) → i < length l → ok ≡ b && all p (take i l)
     → ok && p (getD l i d) ≡ b && all p (take (i + 1) l)
 all-more p l i d ok b h e = rw (e, add-one, all-more′ p l i d h) (sym (and-assoc b (all p (take i l)) (p (getD l i d))))
+
+-- where the first waits alone, no place behind it is used
+alone : (w : Waits) → eqb (w .count) 0 ≡ true → laterHold w ≡ laterUnused w
+unfolding all
+alone w t = rw (eqb-true (w .count) 0 t) (ap (λ (b : Bool). b && all dli1Unused (w .later)) (and-true (placesThere w && true)))
+
+-- what waits, by cases
+pub waits-by : (w : Waits) → waitsHold w ≡ (when firstHolds (w .first) then (when eqb (w .count) 0 then laterUnused w else laterHold w) else false)
+unfolding waitsHold
+waits-by w =
+    by-cases (firstHolds (w .first))
+    (λ t. rw t (by-cases (eqb (w .count) 0) (λ z. rw z (rw z at (alone w z))) (λ z. rw z)))
+    (λ f. rw f)

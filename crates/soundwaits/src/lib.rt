@@ -83,12 +83,19 @@ fn later_unused(w: Waits) -> bool
     ok
 }
 
-// "soundness the kept ones (the first cfnr, the others cfu or cfb)"
+// "soundness the kept ones (the first cfnr, the others cfu or cfb)"; mostly the first waits alone.
 pub fn waits_hold(w: Waits) -> bool
     ensures { λ r. ⌜ r ≡ waitsHold w ⌝ }
 {
     let first = w.first;
-    first_holds(first) & later_hold(w)
+    let count = w.count;
+    if first_holds(first) {
+        if count == 0 {
+            return later_unused(w);
+        }
+        return later_hold(w);
+    }
+    false
 }
 
 // None waits.

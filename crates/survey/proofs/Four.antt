@@ -1,4 +1,4 @@
--- What is noted with the four requests of a station: where no mark was set twice no two open requests of both tables share an identifier. Assumes nothing.
+-- What is noted with the four requests of a station: where each record is sound and no mark was set twice no two open requests of both tables share an identifier. Assumes nothing.
 use Prim.Native.Nat.{ℕ}
 use mathlib.Core.Bool.{true, false}
 use mathlib.Core.List.{List, [], _∷_, _++_, append-assoc, append-nil}
@@ -17,6 +17,7 @@ use Rattle.remote.specs.Held.{timersOf}
 use Rattle.holding.specs.Idle.{fourIdle}
 use Rattle.holding.proofs.Idle.{none-waits}
 use Rattle.call.specs.declared.Call.{Call}
+use Rattle.call.specs.Soundness.{soundCall}
 use Rattle.station.specs.Table.{requestsOf}
 use Rattle.survey.specs.declared.Asked.{Asked}
 use Rattle.survey.specs.declared.Noted.{Noted}
@@ -89,6 +90,6 @@ all-more v [] held c = rw (append-nil held) c
 all-more v (t ∷ rest) held c = rw (← append-assoc held (own t) (identifiersOf rest)) (all-more (withPending v (t .request)) rest (held ++ own t) (one-more v t held c))
 
 module _ (q : Asked) (n i : ℕ) (l : List Call) (p : Pendings) where
-  pub four-clash : withFour (surveyOf q n i l) p .clash ≡ false → distinct (requestsOf l ++ identifiersOf (timersOf p)) ≡ true
+  pub four-clash : all (soundCall (q .last)) l ≡ true → withFour (surveyOf q n i l) p .clash ≡ false → distinct (requestsOf l ++ identifiersOf (timersOf p)) ≡ true
   unfolding withAll
-  four-clash = all-more (surveyOf q n i l) (timersOf p) (requestsOf l) (record { marks = survey-marks q n i l; apart = survey-clash q n i l }) .apart
+  four-clash s = all-more (surveyOf q n i l) (timersOf p) (requestsOf l) (record { marks = survey-marks q n i l s; apart = survey-clash q n i l s }) .apart

@@ -1,5 +1,5 @@
--- What a survey says, by the definitions that a step cites: are all records sound, the lowest free and the lowest due place, and that no two requests share an identifier where no mark
--- was set twice. Assumes nothing.
+-- What a survey says, by the definitions that a step cites: are all records sound, the lowest free place, and, where all are sound, the lowest due place and that no two requests share
+-- an identifier if no mark was set twice. Assumes nothing.
 use Prim.Native.Nat.{ℕ, suc, _+_, _-_, _%_, _≤_, _<_}
 use mathlib.Core.Bool.{Bool, true, false, _&&_, _||_, false≢true}
 use mathlib.Core.List.{List, [], _∷_}
@@ -14,13 +14,14 @@ use Rattle.ground.proofs.Bools.{by-cases}
 use Rattle.ground.proofs.Walks.{both}
 use Rattle.identifier.specs.Identifier.{distinct}
 use Rattle.call.specs.declared.Call.{Call}
-use Rattle.call.specs.Record.{isFree, requestOf, requested}
+use Rattle.call.specs.Record.{isFree, isIncoming, requestOf, requested}
 use Rattle.call.specs.Soundness.{soundCall}
-use Rattle.timed.specs.Timed.{t1}
+use Rattle.sound.proofs.Cases.{only-incoming}
+use Rattle.timed.specs.Timed.{t1, waits}
 use Rattle.call.specs.Incoming.{due}
 use Rattle.station.specs.Table.{requestsOf}
 use Rattle.survey.specs.declared.Asked.{Asked}
-use Rattle.survey.specs.Survey.{has, withBit, slotOf, surveyOf}
+use Rattle.survey.specs.Survey.{has, withBit, slotOf, requestIn, surveyOf}
 use Rattle.survey.proofs.Bits.{has-with, has-stays}
 
 -- the place of the first, from i on
@@ -67,27 +68,39 @@ module _ (q : Asked) (n : ℕ) where
   survey-free i [] h = omega (arith, h)
   survey-free i (c ∷ rest) h = step (isFree c) i (first isFree rest) _ (survey-free (suc i) rest (omega (arith, h)))
 
-  pub survey-due : (time i : ℕ) (l : List Call) → q .by ≡ time - (t1 - 1) → i + length l ≡ n → surveyOf q n i l .due ≡ i + first (due time) l
-  unfolding surveyOf first
-  survey-due time i [] e h = omega (arith, h)
-  survey-due time i (c ∷ rest) e h =
-      let t : (requested c && ltb (c .start) (q .by)) ≡ due time c = rw (e, due-test (c .start) time) in
-      rw t (step (due time c) i (first (due time) rest) _ (survey-due time (suc i) rest e (omega (arith, h))))
+  -- in a sound table the request that is noted is the record's
+  noted : (c : Call) → soundCall (q .last) c ≡ true → waits (requestIn c) ≡ requested c
+  noted c s = by-cases (isIncoming c) (λ d. rw d) (λ d. rw d (sym (only-incoming (q .last) c s d)))
 
-  pub survey-marks : (i : ℕ) (l : List Call) → all (marked (surveyOf q n i l .marks)) (requestsOf l) ≡ true
+  same-request : (c : Call) → requested c ≡ true → soundCall (q .last) c ≡ true → requestIn c ≡ requestOf c
+  same-request c t s = by-cases (isIncoming c) (λ d. rw d) (λ d. absurd (false≢true (sym (only-incoming (q .last) c s d) ∙ t)))
+
+  pub survey-due : (time i : ℕ) (l : List Call) → all (soundCall (q .last)) l ≡ true → q .by ≡ time - (t1 - 1) → i + length l ≡ n → surveyOf q n i l .due ≡ i + first (due time) l
+  unfolding surveyOf first all
+  survey-due time i [] s e h = omega (arith, h)
+  survey-due time i (c ∷ rest) s e h =
+      let w = both (soundCall (q .last) c) (all (soundCall (q .last)) rest) s in
+      let t : (waits (requestIn c) && ltb (requestIn c .start) (q .by)) ≡ due time c = by-cases (requested c) (λ r. rw (same-request c r (w .0), e, due-test (c .start) time)) (λ r. rw (noted c (w .0), r)) in
+      rw t (step (due time c) i (first (due time) rest) _ (survey-due time (suc i) rest (w .1) e (omega (arith, h))))
+
+  pub survey-marks : (i : ℕ) (l : List Call) → all (soundCall (q .last)) l ≡ true → all (marked (surveyOf q n i l .marks)) (requestsOf l) ≡ true
   unfolding surveyOf requestsOf all
-  survey-marks i [] = refl
-  survey-marks i (c ∷ rest) =
+  survey-marks i [] s = refl
+  survey-marks i (c ∷ rest) s =
+      let w = both (soundCall (q .last) c) (all (soundCall (q .last)) rest) s in
       let m = surveyOf q n (suc i) rest .marks in
       by-cases (requested c)
-      (λ t. rw (t, has-with m (slotOf (requestOf c))) (stay m (slotOf (requestOf c)) (requestsOf rest) (survey-marks (suc i) rest)))
-      (λ f. rw f (survey-marks (suc i) rest))
+      (λ t. rw (same-request c t (w .0), t, has-with m (slotOf (requestOf c))) (stay m (slotOf (requestOf c)) (requestsOf rest) (survey-marks (suc i) rest (w .1))))
+      (λ f. rw (noted c (w .0), f) (survey-marks (suc i) rest (w .1)))
 
-  pub survey-clash : (i : ℕ) (l : List Call) → surveyOf q n i l .clash ≡ false → distinct (requestsOf l) ≡ true
-  unfolding surveyOf requestsOf distinct
-  survey-clash i [] h = refl
-  survey-clash i (c ∷ rest) h =
+  pub survey-clash : (i : ℕ) (l : List Call) → all (soundCall (q .last)) l ≡ true → surveyOf q n i l .clash ≡ false → distinct (requestsOf l) ≡ true
+  unfolding surveyOf requestsOf distinct all
+  survey-clash i [] s h = refl
+  survey-clash i (c ∷ rest) s h =
+      let w = both (soundCall (q .last) c) (all (soundCall (q .last)) rest) s in
       let v = surveyOf q n (suc i) rest in
       by-cases (requested c)
-      (λ t. let w = neither (v .clash) (has (v .marks) (slotOf (requestOf c))) (rw t at h) in rw (t, other (v .marks) (c .identifier) (requestsOf rest) (w .1) (survey-marks (suc i) rest)) (survey-clash (suc i) rest (w .0)))
-      (λ f. rw f (survey-clash (suc i) rest (rw f at h)))
+      (λ t.
+      let u = neither (v .clash) (has (v .marks) (slotOf (requestOf c))) (rw (same-request c t (w .0), t) at h) in
+      rw (t, other (v .marks) (c .identifier) (requestsOf rest) (u .1) (survey-marks (suc i) rest (w .1))) (survey-clash (suc i) rest (w .1) (u .0)))
+      (λ f. rw f (survey-clash (suc i) rest (w .1) (rw (noted c (w .0), f) at h)))

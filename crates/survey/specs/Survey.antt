@@ -7,8 +7,9 @@ use Rattle.ground.specs.Choice.{when_then_else_}
 use Rattle.timed.specs.declared.Pending.{Pending}
 use Rattle.timed.specs.Timed.{waits}
 use Rattle.call.specs.declared.Call.{Call}
-use Rattle.call.specs.Record.{isFree, requestOf, requested}
+use Rattle.call.specs.Record.{isFree, isIncoming, requestOf}
 use Rattle.call.specs.Soundness.{soundCall}
+use Rattle.sound.specs.Cases.{openBy, freeBy}
 use Rattle.remote.specs.declared.Pendings.{Pendings}
 use Rattle.survey.specs.declared.Asked.{Asked}
 use Rattle.survey.specs.declared.Noted.{Noted}
@@ -29,9 +30,9 @@ slotOf p = p .identifier % 64
 abbrev pub freeWith : ℕ → Call → ℕ → ℕ
 freeWith free c i = when isFree c then i else free
 
--- the lowest place whose request started before a time
-abbrev pub dueWith : ℕ → Call → ℕ → ℕ → ℕ
-dueWith due c i by = when requested c && ltb (c .start) by then i else due
+-- the lowest place whose request started before a time, with the request p at i
+abbrev pub dueWith : ℕ → Pending → ℕ → ℕ → ℕ
+dueWith due p i by = when waits p && ltb (p .start) by then i else due
 
 -- the marks of the open requests' identifiers, with the request p beside those that were seen
 abbrev pub marksWith : ℕ → Pending → ℕ
@@ -45,15 +46,37 @@ clashWith clash marks p = when waits p then clash || has marks (slotOf p) else c
 abbrev pub unseenOf : ℕ → Noted
 unseenOf n = record { sound = true; clash = false; free = n; due = n; marks = 0 }
 
+-- the request that is noted of a record: in a sound table only an incoming call has one
+abbrev pub requestIn : Call → Pending
+requestIn c = when isIncoming c then requestOf c else record { start = 0; identifier = 0; wait = 0 }
+
 -- what is noted with the record c at i
 abbrev pub notedOf : Asked → Noted → Call → ℕ → Noted
 notedOf q v c i = record {
   sound = soundCall (q .last) c && v .sound;
-  clash = clashWith (v .clash) (v .marks) (requestOf c);
+  clash = clashWith (v .clash) (v .marks) (requestIn c);
   free = freeWith (v .free) c i;
-  due = dueWith (v .due) c i (q .by);
+  due = dueWith (v .due) (requestIn c) i (q .by);
+  marks = marksWith (v .marks) (requestIn c);
+}
+
+-- the same by cases: of a call without an open request whether it is sound,
+abbrev pub withSoundness : Noted → Bool → Noted
+withSoundness v well = record { sound = well && v .sound; clash = v .clash; free = v .free; due = v .due; marks = v .marks }
+
+-- of one with an open request also its time and its mark,
+abbrev pub notedOpen : Asked → Noted → Call → ℕ → Noted
+notedOpen q v c i = record {
+  sound = openBy (q .last) c && v .sound;
+  clash = clashWith (v .clash) (v .marks) (requestOf c);
+  free = v .free;
+  due = dueWith (v .due) (requestOf c) i (q .by);
   marks = marksWith (v .marks) (requestOf c);
 }
+
+-- and of what is no call also whether it is free
+abbrev pub notedFree : Noted → Call → ℕ → Noted
+notedFree v c i = record { sound = freeBy c && v .sound; clash = v .clash; free = freeWith (v .free) c i; due = v .due; marks = v .marks }
 
 -- what is noted of the records from the place i on, in a table of n
 unfoldable pub surveyOf : Asked → ℕ → ℕ → List Call → Noted

@@ -2,9 +2,10 @@
 // a few numbers, to which `with_four` adds the requests that the station holds.
 ghost use mathlib.Core.Path.{_≡_};
 ghost use Prim.Native.Nat.{_≤_, _<_};
-ghost use lib.ListN.{length, take};
-ghost use Rattle.call.specs.Record.{requestOf};
-ghost use Rattle.survey.specs.Survey.{has, withBit, slotOf, freeWith, dueWith, marksWith, clashWith, unseenOf, notedOf, surveyOf, withPending, withFour};
+ghost use lib.ListN.{length, take, getD};
+ghost use Rattle.call.specs.Record.{freeCall, requestOf};
+ghost use Rattle.sound.specs.Cases.{incomingBy, waitingBy, outgoingBy};
+ghost use Rattle.survey.specs.Survey.{has, withBit, slotOf, freeWith, dueWith, marksWith, clashWith, unseenOf, notedOf, withSoundness, notedOpen, notedFree, surveyOf, withPending, withFour};
 use call::Call;
 use remote::Pendings;
 use timed::Pending;
@@ -70,10 +71,10 @@ fn free_with(free: usize, c: Call, i: usize) -> usize
 }
 
 // The lowest place from i on whose request started before a time.
-fn due_with(due: usize, c: Call, i: usize, by: u64) -> usize
-    ensures { λ r. ⌜ r ≡ dueWith due c i by ⌝ }
+fn due_with(due: usize, p: Pending, i: usize, by: u64) -> usize
+    ensures { λ r. ⌜ r ≡ dueWith due p i by ⌝ }
 {
-    if (c.cds == 1) & (c.start < by) {
+    if (p.wait == 1) & (p.start < by) {
         i
     } else {
         due
@@ -116,23 +117,104 @@ fn unseen(n: usize) -> Noted
     }
 }
 
-// What is noted with the record at i.
-fn note(v: Noted, c: Call, i: usize, q: Asked) -> Noted
-    ensures { λ r. ⌜ r ≡ notedOf q v c i ⌝ }
+// What is noted with every record: whether it is sound. All else stays.
+fn with_soundness(v: Noted, well: bool) -> Noted
+    ensures { λ r. ⌜ r ≡ withSoundness v well ⌝ }
 {
-    let p = request_of(c);
-    let well = sound::sound_call(c, q.last);
-    let clash = clash_with(v.clash, v.marks, p);
-    let free = free_with(v.free, c, i);
-    let due = due_with(v.due, c, i, q.by);
-    let marks = marks_with(v.marks, p);
     Noted {
         sound: well & v.sound,
+        clash: v.clash,
+        free: v.free,
+        due: v.due,
+        marks: v.marks,
+    }
+}
+
+// What is noted with the record at i, by cases: an incoming call with an open request,
+fn note_open(v: Noted, c: Call, i: usize, q: Asked) -> Noted
+    ensures { λ r. ⌜ r ≡ notedOpen q v c i ⌝ }
+{
+    let p = request_of(c);
+    let well = sound::sound_open(c, q.last);
+    let clash = clash_with(v.clash, v.marks, p);
+    let due = due_with(v.due, p, i, q.by);
+    let marks = marks_with(v.marks, p);
+    let w = with_soundness(v, well);
+    Noted {
+        sound: w.sound,
         clash: clash,
-        free: free,
+        free: w.free,
         due: due,
         marks: marks,
     }
+}
+
+// an incoming call with none,
+fn note_incoming(v: Noted, c: Call) -> Noted
+    ensures { λ r. ⌜ r ≡ withSoundness v (incomingBy c) ⌝ }
+{
+    let well = sound::sound_incoming(c);
+    with_soundness(v, well)
+}
+
+// an outgoing call with CDR Invoked,
+fn note_waiting(v: Noted, c: Call) -> Noted
+    ensures { λ r. ⌜ r ≡ withSoundness v (waitingBy c) ⌝ }
+{
+    let well = sound::sound_waiting(c);
+    with_soundness(v, well)
+}
+
+// an outgoing call outside Invoked,
+fn note_outgoing(v: Noted, c: Call) -> Noted
+    ensures { λ r. ⌜ r ≡ withSoundness v (outgoingBy c) ⌝ }
+{
+    let well = sound::sound_outgoing(c);
+    with_soundness(v, well)
+}
+
+// or no call.
+fn note_free(v: Noted, c: Call, i: usize) -> Noted
+    ensures { λ r. ⌜ r ≡ notedFree v c i ⌝ }
+{
+    let well = sound::sound_free(c);
+    let free = free_with(v.free, c, i);
+    let w = with_soundness(v, well);
+    Noted {
+        sound: w.sound,
+        clash: w.clash,
+        free: free,
+        due: w.due,
+        marks: w.marks,
+    }
+}
+
+// What is noted with the record at k. Each case reads the record once more: what it doesn't look at is then not loaded.
+fn note_at(table: &[Call], k: usize, v: Noted, q: Asked) -> Noted
+    requires { ⌜ k < length (now table) ⌝ }
+    ensures { λ r. ⌜ r ≡ notedOf q v (getD (now (table .entry)) k freeCall) k ⌝ }
+{
+    let head = slice::read(table, k);
+    if head.direction == 2 {
+        if head.cds == 1 {
+            let c = slice::read(table, k);
+            return note_open(v, c, k, q);
+        } else {
+            let c = slice::read(table, k);
+            return note_incoming(v, c);
+        }
+    }
+    if head.direction == 1 {
+        if head.cdr == 1 {
+            let c = slice::read(table, k);
+            return note_waiting(v, c);
+        } else {
+            let c = slice::read(table, k);
+            return note_outgoing(v, c);
+        }
+    }
+    let c = slice::read(table, k);
+    note_free(v, c, k)
 }
 
 // What is noted of the first n records of the table.
@@ -144,8 +226,7 @@ pub fn survey(table: &[Call], n: usize, q: Asked) -> Noted
     let mut i = n;
     while 0 < i {
         let k = i - 1;
-        let c = table[k];
-        v = note(v, c, k, q);
+        v = note_at(table, k, v, q);
         i = k;
     }
     v

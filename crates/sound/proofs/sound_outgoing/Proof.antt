@@ -4,17 +4,4 @@ use Rattle.sound.proofs.sound_outgoing.Statement.{statement}
 use Rattle.sound.proofs.sound_outgoing.Tie as tie
 
 pub sound-outgoing-spec : {M : Type 1} → statement M
-sound-outgoing-spec =
-    tie.close
-    (tie.spec
-    (λ c κs. search needs)
-    (λ c κs. search needs)
-    (λ c κs. search needs)
-    (λ c. search (ways, asked))
-    (λ c κs. search needs)
-    (λ c κs. search needs)
-    (λ c κs. search needs)
-    (λ c. search (ways, asked))
-    (λ c. search (ways, asked))
-    (λ c. search (ways, asked))
-    (λ c. search (ways, asked)))
+sound-outgoing-spec = tie.close (tie.spec (λ c κs. search needs) (λ c κs. search needs) (λ c κs. search needs) (λ c. search (ways, asked)) (λ c. search (ways, asked)) (λ c. search (ways, asked)))

@@ -1,7 +1,16 @@
-use Rattle.waits.specs.Soundness.{waitsHold}
+use borrow.Author.Needs.{needs}
+use Rattle.ground.proofs.Ways.{ways, asked}
+use Rattle.soundwaits.proofs.Places.{waits-by}
 use Rattle.soundwaits.proofs.waits_hold.Statement.{statement}
 use Rattle.soundwaits.proofs.waits_hold.Tie as tie
 
 pub waits-hold-spec : {M : Type 1} → statement M
-unfolding waitsHold
-waits-hold-spec = tie.close (tie.spec (λ c κs. tt) (λ c κs. tt) (λ c. rw (c .later-hold .ensures, c .before .first-holds .ensures)))
+waits-hold-spec =
+    tie.close
+    (tie.spec
+    (λ c κs. search needs)
+    (λ c κs. search needs)
+    (λ c. rw (waits-by _) (search (ways, asked)))
+    (λ c κs. search needs)
+    (λ c. rw (waits-by _) (search (ways, asked)))
+    (λ c. rw (waits-by _) (search (ways, asked))))
