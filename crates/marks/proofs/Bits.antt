@@ -3,7 +3,7 @@ use Prim.Native.Nat.{ℕ, zero, suc, _+_, _/_, _%_, _^_, _<_}
 use mathlib.Core.Bool.{true, false, false≢true}
 use borrow.Author.Tests.{eq-eqb, eqb-true}
 use Rattle.ground.proofs.Bools.{by-cases}
-use Rattle.survey.specs.Survey.{has, withBit}
+use Rattle.marks.specs.Marks.{has, withBit}
 use mathlib.Core.Path.{_≡_, sym, ap, _∙_}
 use native.Mathlib.Nat.{le-of-suc-le-suc, not-suc-le-zero, two-pow-succ, pow-succ', div-div-eq-div-mul}
 use native.Mathlib.Omega.{arith}
