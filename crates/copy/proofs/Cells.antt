@@ -10,7 +10,7 @@ use mir.Syntax.{Ty, w32}
 use mir.Val.{Val, vint}
 use denote.RattleType.{RattleType}
 use denote.Laws.{Is}
-use Rattle.slice.proofs.Cells as row-of
+use Rattle.slice.proofs.Cells as cells-of
 use Rattle.call.specs.declared.Call.{Call}
 use Rattle.draw.specs.Column.{over, heldBy, frees, columnOf}
 
@@ -24,20 +24,20 @@ pub held-length : (i : ℕ) (l : List Call) → i ≤ length l → i ≤ 64 → 
 held-length i l h k = length-map (over i l frees) heldBy ∙ over-length i l frees h k
 
 abbrev pub AU : RattleType
-AU = row-of.AU w32 64
+AU = cells-of.AU w32 64
 
 abbrev pub cells : Ty
-cells = row-of.cells w32 64
+cells = cells-of.cells w32 64
 
 abbrev pub avals : List ℕ → List Val
-avals = row-of.avals w32 64
+avals = cells-of.avals w32 64
 
 abbrev pub mach : List ℕ → Val
-mach = row-of.mach w32 64
+mach = cells-of.mach w32 64
 
 -- of no record
 abbrev pub zeros : List ℕ
-zeros = row-of.zeros w32 64
+zeros = cells-of.zeros w32 64
 
 pub is-zeros : Is AU zeros (avals zeros)
-is-zeros = (replicate 64 (vint w32 0), ((refl, refl), row-of.each-zero w32 64 (refl, lit< tt) 64))
+is-zeros = (replicate 64 (vint w32 0), ((refl, refl), cells-of.each-zero w32 64 (refl, lit< tt) 64))

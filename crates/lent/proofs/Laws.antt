@@ -138,7 +138,7 @@ module _ (input : Input) (ys : List Call) where
     no-clash f = sym (told-apart (askedOf input) (length ys) ys well f)
 
     -- the next identifier is drawn where it has no mark
-    next-drawn : Whole .taken ≡ false → s .next ≡ identifierFor s ys
+    next-drawn : Whole .marked ≡ false → s .next ≡ identifierFor s ys
     unfolding firstFree
     next-drawn f = rw (told-free (askedOf input) (length ys) ys well f)
 
@@ -147,13 +147,13 @@ module _ (input : Input) (ys : List Call) where
     chosen-apart =
         by-cases (Whole .clash)
         (λ t. rw t all-apart)
-        (λ f. by-cases (Whole .taken && request) (λ d. rw (f, d) (no-clash f)) (λ d. rw (f, d) (no-clash f)))
+        (λ f. by-cases (Whole .marked && request) (λ d. rw (f, d) (no-clash f)) (λ d. rw (f, d) (no-clash f)))
 
     chosen-drawn : request ≡ true → Chosen .identifier ≡ identifierFor s ys
     chosen-drawn d =
         by-cases (Whole .clash)
         (λ t. rw t (column-drawn d))
-        (λ f. by-cases (Whole .taken) (λ t. rw (f, t, d) (rw d at (column-drawn d))) (λ u. rw (f, u) (next-drawn u)))
+        (λ f. by-cases (Whole .marked) (λ t. rw (f, t, d) (rw d at (column-drawn d))) (λ u. rw (f, u) (next-drawn u)))
 
     sees-table : Sees s ys e (seenBy input Whole (length ys) Chosen (at ys (placeSeen Whole input)))
     sees-table = record {

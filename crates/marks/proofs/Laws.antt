@@ -1,24 +1,22 @@
--- What marks tell of the identifiers that set theirs: where none was set twice no two are the same, and an identifier whose mark is not set is none of them.
--- Assumes nothing.
-use Prim.Native.Nat.{ℕ, _/_, _%_, _<_}
+-- What one mark more does to the others, what a mark that is not set tells, and that a request that does not wait adds nothing. Assumes nothing.
+use Prim.Native.Nat.{ℕ, _%_, _<_}
 use mathlib.Core.Bool.{Bool, true, false, _||_, false≢true}
-use mathlib.Core.List.{List, [], _∷_, _++_, append-assoc, append-nil}
+use mathlib.Core.List.{List, [], _∷_}
 use mathlib.Core.Path.{_≡_, refl, sym, ap, _∙_}
 use native.Mathlib.Omega.{arith}
 use borrow.Author.Tests.{eqb-true, eqb-false}
-use lib.Dec.{eqb, eqb→eq}
-use lib.ListN.{length, getD, set, length-set}
+use lib.Dec.{eqb}
+use lib.ListN.{length, getD}
 use lib.Seq.{getD-set-same, getD-set-other}
-use Rattle.ground.specs.Choice.{when_then_else_}
 use Rattle.ground.specs.Lists.{all, any}
 use Rattle.ground.proofs.Bools.{by-cases}
-use Rattle.ground.proofs.Walks.{both, neither}
+use Rattle.ground.proofs.Walks.{both}
 use Rattle.timed.specs.declared.Pending.{Pending}
 use Rattle.timed.specs.Timed.{waits}
 use Rattle.remote.specs.declared.Pendings.{Pendings}
 use Rattle.holding.specs.Idle.{fourIdle}
 use Rattle.holding.proofs.Idle.{none-waits}
-use Rattle.marks.specs.Marks.{has, withBit, wordOf, putIn, isMarked, withMark, marksWith, twiceIn, withRequest, withFour}
+use Rattle.marks.specs.Marks.{wordOf, putIn, isMarked, withMark, withRequest, withFour}
 use Rattle.marks.proofs.Bits.{has-with, has-stays}
 
 -- ---- one mark more

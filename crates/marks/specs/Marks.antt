@@ -18,7 +18,7 @@ has mask k = eqb (mask / 2 ^ k % 2) 1
 abbrev pub withBit : ℕ → ℕ → ℕ
 withBit mask k = when has mask k then mask else mask + 2 ^ k
 
--- a bit for each identifier modulo 512, in eight words: the word that has an identifier's, that it is set in that word, and that word with it
+-- a mark is a bit for each identifier modulo 512, in eight words: the word that has it, whether it is set there, and that word with it
 abbrev pub wordOf : ℕ → ℕ
 wordOf identifier = identifier / 64 % 8
 
@@ -36,24 +36,24 @@ isMarked marks identifier = setIn (getD marks (wordOf identifier) 0) identifier
 abbrev pub withMark : List ℕ → ℕ → List ℕ
 withMark marks identifier = set marks (wordOf identifier) (putIn (getD marks (wordOf identifier) 0) identifier)
 
--- the marks with that of a request that waits, and that it was set before
+-- the marks with that of a request, where it waits; and whether that one was set before
 abbrev pub marksWith : List ℕ → Pending → List ℕ
 marksWith marks p = when waits p then withMark marks (p .identifier) else marks
 
 abbrev pub twiceIn : List ℕ → Pending → Bool
 twiceIn marks p = when waits p then isMarked marks (p .identifier) else false
 
--- that a mark was set twice, with the marks: none is set, and with a request more
-abbrev pub unmarked : Bool × List ℕ
-unmarked = (false, replicate 8 0)
+-- whether a mark was set twice, and the marks: at first, and with a request more
+abbrev pub noMarks : Bool × List ℕ
+noMarks = (false, replicate 8 0)
 
 unfoldable pub withRequest : Bool × List ℕ → Pending → Bool × List ℕ
 withRequest s p = (s .0 || twiceIn (s .1) p, marksWith (s .1) p)
 
--- with the four requests that a station may hold: document 02, Seven: "so "no two open requests share" covers both tables"
+-- and with the four that a station may hold. Document 02, Seven: "so "no two open requests share" covers both tables"
 abbrev pub withFour : Bool × List ℕ → Pendings → Bool × List ℕ
 withFour s p = withRequest (withRequest (withRequest (withRequest s (p .activation)) (p .deactivation)) (p .interrogation)) (p .check)
 
--- what they tell, and of an identifier
+-- what the marks tell: whether one was set twice, and whether an identifier's is set
 abbrev pub toldOf : Bool × List ℕ → ℕ → Marked
-toldOf s identifier = record { clash = s .0; taken = isMarked (s .1) identifier }
+toldOf s identifier = record { clash = s .0; marked = isMarked (s .1) identifier }

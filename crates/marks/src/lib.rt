@@ -7,10 +7,10 @@ ghost use Rattle.marks.specs.Marks.{has, withBit, wordOf, setIn, putIn, 
 use remote::Pendings;
 use timed::Pending;
 
-// What the marks tell: that a mark was set twice, and that an identifier's is set.
+// What the marks tell. `clash`: one was set twice; `marked`: that of the identifier that was asked for is set.
 pub struct Marked {
     pub clash: bool,
-    pub taken: bool,
+    pub marked: bool,
 }
 
 // Whether a mask has bit k.
@@ -81,15 +81,15 @@ fn mark(marks: &mut [u64; 8], p: Pending) -> bool
     false
 }
 
-// What the marks tell when the station's four requests have set theirs too; mostly none waits.
+// What the marks tell when the station's four requests have set theirs too. Mostly none of the four waits, and none is set.
 pub fn told(clash: bool, marks: [u64; 8], p: Pendings, identifier: u16) -> Marked
     ensures { λ r. ⌜ r ≡ toldOf (withFour (clash, marks) p) identifier ⌝ }
 {
     if holding::four_idle(p) {
-        let taken = is_marked(&marks, identifier);
+        let marked = is_marked(&marks, identifier);
         return Marked {
             clash: clash,
-            taken: taken,
+            marked: marked,
         };
     }
     let mut all = marks;
@@ -97,9 +97,9 @@ pub fn told(clash: bool, marks: [u64; 8], p: Pendings, identifier: u16) -> Marke
     let deactivation = mark(&mut all, p.deactivation);
     let interrogation = mark(&mut all, p.interrogation);
     let check = mark(&mut all, p.check);
-    let taken = is_marked(&all, identifier);
+    let marked = is_marked(&all, identifier);
     Marked {
         clash: clash | activation | deactivation | interrogation | check,
-        taken: taken,
+        marked: marked,
     }
 }

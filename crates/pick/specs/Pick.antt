@@ -29,7 +29,7 @@ placeSeen v input = placeOf (input .event) (v .free) (v .due)
 
 -- the column of identifiers is needed where two marks are the same, and for a request where the next identifier has one
 abbrev pub wantsColumn : Noted → Input → Bool
-wantsColumn v input = v .clash || (v .taken && (diverts (input .event) || asks (input .event)))
+wantsColumn v input = v .clash || (v .marked && (diverts (input .event) || asks (input .event)))
 
 -- identifiers are compared only where two marks are the same
 abbrev pub apartWhere : Bool → List ℕ → Bool

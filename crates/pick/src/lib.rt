@@ -64,7 +64,7 @@ pub fn wants_column(v: Noted, input: Input) -> bool
 {
     let kind = input.event.kind;
     let asks = (kind == 6) | ((16 <= kind) & (kind <= 19));
-    v.clash | (v.taken & asks)
+    v.clash | (v.marked & asks)
 }
 
 // Identifiers are compared only where two marks are the same.
@@ -91,7 +91,7 @@ pub fn from_column(input: Input, v: Noted, held: [u32; 64]) -> Pick
     }
 }
 
-// All marks differ, and none is that of the next identifier, or no identifier is asked for.
+// All marks differ; and no identifier is asked for, or the next one has no mark.
 pub fn as_it_stands(input: Input) -> Pick
     ensures { λ r. ⌜ r ≡ asItStands input ⌝ }
 {

@@ -1,4 +1,4 @@
--- What the walk of `note_at` cites: what each case notes is what is noted of the record, and `slice::read` and the five cases meet their contracts. Assumes nothing.
+-- What the walk of `note_at` cites: what each case notes is what is noted of the record, and the five cases meet their contracts. Assumes nothing.
 use mathlib.Core.Path.{_≡_, refl, _∙_}
 use Prim.Native.Nat.{ℕ, _<_, _^_}
 use mathlib.Core.Bool.{not}
@@ -34,11 +34,10 @@ use Rattle.call.specs.Record.{freeCall, isOutgoing, isIncoming, invoked, reques
 use Rattle.sound.specs.Cases.{incomingBy, waitingBy, outgoingBy}
 use Rattle.sound.proofs.Cases.{sound-open, sound-incoming, sound-waiting, sound-outgoing, sound-free}
 use Rattle.slice.proofs.Row.{R, makes}
-use Rattle.slice.proofs.read as read
 use Rattle.survey.specs.declared.Asked.{Asked}
 use Rattle.survey.specs.declared.Passed.{Passed}
 use Rattle.survey.specs.Survey.{passedWith, withSoundness, passedOpen, passedFree}
-use Rattle.survey.proofs.Values.{IsV, IsQ, slice-at}
+use Rattle.survey.proofs.Values.{IsV, IsQ}
 use Rattle.survey.proofs.Asked as Q
 use Rattle.survey.proofs.Asked.Laws as Q′
 use Rattle.survey.proofs.Passed as N
@@ -85,15 +84,6 @@ module _ (q : Asked) (v : Passed) (d c r : Call) (e₁ : d ≡ r) (e₂ : c ≡ 
 
 -- ---- the callees
 module _ {M : Type 1} (𝓤 : URA M) (H : Heap 𝓤) (A : Atoms 𝓤) (mem : Memory → SProp 𝓤) (run : Routine → Fun 𝓤) where
-  abbrev pub Read : Contract 𝓤
-  Read = tripleOf 𝓤 H A read.signature (read.spec 𝓤 H A mem run)
-
-  pub read-of : (κ : Lft) (x : RefT (List Call)) (k : ℕ) (c : Call) → ent 𝓤 (ensured 𝓤 H A read.ended (read.clauses 𝓤 H A mem run) (κ, tt) (x, (k, tt)) tt c) (fact 𝓤 (c ≡ getD (x .now) k freeCall))
-  read-of κ x k c = exE 𝓤 _ (λ ws. snd∗ 𝓤 (sem 𝓤 H A (lasts read.ended (κ, tt) (x, (k, tt)) ws)) (fact 𝓤 (c ≡ getD (x .now) k freeCall)))
-
-  abbrev pub to-read : Lft → Share → ℕ → ℕ → GName → List Call → ℕ → Read .Ghost
-  to-read κ q b o δ ys k = (((κ, tt), (q, tt), tt, (slice-at b o δ ys, (k, tt)), (sliceVal (b, o) (length ys) ∷ [], (vint w64 k ∷ [], tt))), tt)
-
   abbrev pub Open : Contract 𝓤
   Open = tripleOf 𝓤 H A note-open.signature (note-open.spec 𝓤 H A mem run)
 
@@ -140,12 +130,6 @@ module _ {M : Type 1} (𝓤 : URA M) (H : Heap 𝓤) (A : Atoms 𝓤) (mem : Mem
   to-free v c w k = ((tt, tt, tt, (v, (c, (k, tt))), (N′.lowered v ∷ [], (w ∷ [], (vint w64 k ∷ [], tt)))), tt)
 
   module _ (W : Given 𝓤 H A) where
-    pub goes-read : (κ : Lft) (q : Share) (b o : ℕ) (δ : GName) (ys : List Call) (k : ℕ) → k < 2 ^ 64 → k < length ys →
-        ent 𝓤 (sep 𝓤 (A .lft κ q) (sem 𝓤 H A (ShrSlice (named 0) κ R .own (slice-at b o δ ys) (sliceVal (b, o) (length ys) ∷ [])))) (Read .pre (to-read κ q b o δ ys k))
-    goes-read κ q b o δ ys k g ok =
-        qed W (‵ (flft κ q) ∷ ‵ (ShrSlice (named 0) κ R .own (slice-at b o δ ys) (sliceVal (b, o) (length ys) ∷ [])) ∷ []) ∵ says ! ok $ nothing ! $ move ! (1 ∷ 0 ∷ []) $ join ! $ frame ! $
-        nothing ! $ owned ! usize (Is usize) (uint-makes 𝓤 H A W w64) k (vint w64 k ∷ []) (refl, g) $ fjoin ! $ move ! (1 ∷ 0 ∷ []) $ fjoin ! $ done !
-
     pub goes-open : (v : Passed) (c : Call) (w : Val) (k : ℕ) (q : Asked) → IsV v → Is R c (w ∷ []) → k < 2 ^ 64 → IsQ q → ent 𝓤 (emp 𝓤) (Open .pre (to-open v c w k q))
     goes-open v c w k q gv gc gk gq =
         qed W [] ∵ nothing ! $ owned ! Q.the-row (Is Q.the-row) (LL.makes Q.the-type Q′.the-plain 𝓤 H A) q (Q′.lowered q ∷ []) gq $ fjoin ! $ owned ! usize (Is usize) (uint-makes 𝓤 H A W w64) k (vint w64 k ∷ []) (refl, gk) $ fjoin ! $ owned ! R (Is R) (makes 𝓤 H A) c (w ∷ []) gc $ fjoin ! $ owned ! N.the-row (Is N.the-row) (LL.makes N.the-type N′.the-plain 𝓤 H A) v (N′.lowered v ∷ []) gv $ fjoin ! $ nothing ! $ join ! $ frame ! $ done !

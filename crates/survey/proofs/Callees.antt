@@ -30,6 +30,7 @@ use denote.Triple.Walked.{says}
 use Rattle.call.specs.declared.Call.{Call}
 use Rattle.call.specs.Record.{freeCall}
 use Rattle.slice.proofs.Row.{R}
+use Rattle.slice.proofs.Reading.{slice-at}
 use Rattle.slice.proofs.Cells.{AU, avals, amakes}
 use Rattle.marks.specs.Marks.{wordOf, setIn, putIn}
 use Rattle.marks.proofs.word_of as word-of
@@ -46,7 +47,7 @@ use Rattle.survey.proofs.Passed.Laws as N′
 use Rattle.survey.proofs.unseen as unseen
 use Rattle.survey.proofs.note_at as note-at
 use Rattle.survey.proofs.summed as summed
-use Rattle.survey.proofs.Values.{IsV, IsQ, slice-at}
+use Rattle.survey.proofs.Values.{IsV, IsQ}
 
 module _ {M : Type 1} (𝓤 : URA M) (H : Heap 𝓤) (A : Atoms 𝓤) (mem : Memory → SProp 𝓤) (run : Routine → Fun 𝓤) where
   abbrev pub Unseen : Contract 𝓤

@@ -1,7 +1,7 @@
 -- What the marks of a walk tell: where each record is sound and no mark was set twice no two open requests of both tables share an identifier, and an identifier whose mark is not set
 -- is none of theirs. Assumes nothing.
 use Prim.Native.Nat.{ℕ}
-use mathlib.Core.Bool.{Bool, true, false, _||_}
+use mathlib.Core.Bool.{Bool, true, false}
 use mathlib.Core.List.{List, [], _∷_, _++_, append-assoc, append-nil}
 use mathlib.Core.Path.{_≡_, refl, _∙_}
 use lib.Dec.{eqb, eqb→eq}
@@ -69,15 +69,15 @@ module _ (s : Bool × List ℕ) (p : Pending) (w : waits p ≡ true) (held : Lis
   }
 
 -- those of a table whose records are sound
-covers-table : (q : Asked) (n : ℕ) (l : List Call) → all (soundCall (q .last)) l ≡ true → Covers (markedOf l) (requestsOf l)
+covers-table : (q : Asked) (l : List Call) → all (soundCall (q .last)) l ≡ true → Covers (markedOf l) (requestsOf l)
 unfolding markedOf requestsOf all distinct
-covers-table q n [] s = record { full = refl; marks = refl; apart = λ h. refl }
-covers-table q n (c ∷ rest) s =
+covers-table q [] s = record { full = refl; marks = refl; apart = λ h. refl }
+covers-table q (c ∷ rest) s =
     let w = both (soundCall (q .last) c) (all (soundCall (q .last)) rest) s in
-    let r = covers-table q n rest (w .1) in
+    let r = covers-table q rest (w .1) in
     by-cases (requested c)
-    (λ t. rw (same-request q n c t (w .0), t) (one-before (markedOf rest) (requestOf c) t (requestsOf rest) r))
-    (λ f. rw (adds-nothing (markedOf rest) (requestIn c) (noted q n c (w .0) ∙ f), f) r)
+    (λ t. rw (same-request q c t (w .0), t) (one-before (markedOf rest) (requestOf c) t (requestsOf rest) r))
+    (λ f. rw (adds-nothing (markedOf rest) (requestIn c) (noted q c (w .0) ∙ f), f) r)
 
 -- and those of a list of requests behind them
 unfoldable withAll : Bool × List ℕ → List Timer → Bool × List ℕ
@@ -95,10 +95,10 @@ covers-all s (t ∷ rest) held c = rw (← append-assoc held (own t) (identifier
 module _ (q : Asked) (n : ℕ) (l : List Call) (sound : all (soundCall (q .last)) l ≡ true) where
   covers-both : Covers (withFour (markedOf l) (q .pending)) (requestsOf l ++ identifiersOf (timersOf (q .pending)))
   unfolding withAll
-  covers-both = covers-all (markedOf l) (timersOf (q .pending)) (requestsOf l) (covers-table q n l sound)
+  covers-both = covers-all (markedOf l) (timersOf (q .pending)) (requestsOf l) (covers-table q l sound)
 
   pub told-apart : surveyOf q n l .clash ≡ false → distinct (requestsOf l ++ identifiersOf (timersOf (q .pending))) ≡ true
   told-apart = covers-both .apart
 
-  pub told-free : surveyOf q n l .taken ≡ false → taken (requestsOf l ++ identifiersOf (timersOf (q .pending))) (q .next) ≡ false
+  pub told-free : surveyOf q n l .marked ≡ false → taken (requestsOf l ++ identifiersOf (timersOf (q .pending))) (q .next) ≡ false
   told-free h = other (withFour (markedOf l) (q .pending) .1) (q .next) (requestsOf l ++ identifiersOf (timersOf (q .pending))) h (covers-both .marks)

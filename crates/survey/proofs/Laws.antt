@@ -31,6 +31,14 @@ due-test s time =
     (λ t. let l : s < time - (t1 - 1) = ltb→lt s (time - (t1 - 1)) (rw t tt) in t ∙ sym (le-leb t1 (time - s) (omega (arith, l))))
     (λ f. let l : time - (t1 - 1) ≤ s = nltb→le s (time - (t1 - 1)) (rw f tt) in f ∙ sym (lt-leb t1 (time - s) (omega (arith, l))))
 
+module _ (q : Asked) where
+  -- in a sound table the request that is noted is the record's
+  pub noted : (c : Call) → soundCall (q .last) c ≡ true → waits (requestIn c) ≡ requested c
+  noted c s = by-cases (isIncoming c) (λ d. rw d) (λ d. rw d (sym (only-incoming (q .last) c s d)))
+
+  pub same-request : (c : Call) → requested c ≡ true → soundCall (q .last) c ≡ true → requestIn c ≡ requestOf c
+  same-request c t s = by-cases (isIncoming c) (λ d. rw d) (λ d. absurd (false≢true (sym (only-incoming (q .last) c s d) ∙ t)))
+
 module _ (q : Asked) (n : ℕ) where
   pub survey-sound : (i : ℕ) (l : List Call) → passedOf q n i l .sound ≡ all (soundCall (q .last)) l
   unfolding passedOf all
@@ -42,17 +50,10 @@ module _ (q : Asked) (n : ℕ) where
   survey-free i [] h = omega (arith, h)
   survey-free i (c ∷ rest) h = step (isFree c) i (first isFree rest) _ (survey-free (suc i) rest (omega (arith, h)))
 
-  -- in a sound table the request that is noted is the record's
-  pub noted : (c : Call) → soundCall (q .last) c ≡ true → waits (requestIn c) ≡ requested c
-  noted c s = by-cases (isIncoming c) (λ d. rw d) (λ d. rw d (sym (only-incoming (q .last) c s d)))
-
-  pub same-request : (c : Call) → requested c ≡ true → soundCall (q .last) c ≡ true → requestIn c ≡ requestOf c
-  same-request c t s = by-cases (isIncoming c) (λ d. rw d) (λ d. absurd (false≢true (sym (only-incoming (q .last) c s d) ∙ t)))
-
   pub survey-due : (time i : ℕ) (l : List Call) → all (soundCall (q .last)) l ≡ true → q .by ≡ time - (t1 - 1) → i + length l ≡ n → passedOf q n i l .due ≡ i + first (due time) l
   unfolding passedOf first all
   survey-due time i [] s e h = omega (arith, h)
   survey-due time i (c ∷ rest) s e h =
       let w = both (soundCall (q .last) c) (all (soundCall (q .last)) rest) s in
-      let t : (waits (requestIn c) && ltb (requestIn c .start) (q .by)) ≡ due time c = by-cases (requested c) (λ r. rw (same-request c r (w .0), e, due-test (c .start) time)) (λ r. rw (noted c (w .0), r)) in
+      let t : (waits (requestIn c) && ltb (requestIn c .start) (q .by)) ≡ due time c = by-cases (requested c) (λ r. rw (same-request q c r (w .0), e, due-test (c .start) time)) (λ r. rw (noted q c (w .0), r)) in
       rw t (step (due time c) i (first (due time) rest) _ (survey-due time (suc i) rest (w .1) e (omega (arith, h))))

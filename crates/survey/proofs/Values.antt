@@ -1,4 +1,4 @@
--- What is noted and what is asked, as machine values that are allowed, and a lent slice by its parts. Assumes nothing.
+-- What is noted and what is asked, as machine values that are allowed. Assumes nothing.
 use mathlib.Core.Path.{_≡_, subst}
 use Prim.Native.Nat.{ℕ}
 use mathlib.Core.List.{List, [], _∷_}
@@ -25,9 +25,6 @@ IsV v = Is N.the-row v (N′.lowered v ∷ [])
 
 abbrev pub IsQ : Asked → Type 0
 IsQ q = Is Q.the-row q (Q′.lowered q ∷ [])
-
-abbrev pub slice-at : ℕ → ℕ → GName → List Call → RefT (List Call)
-slice-at b o δ l = record { ptr = (b, o); name = δ; now = l }
 
 module _ {M : Type 1} (𝓤 : URA M) (H : Heap 𝓤) (A : Atoms 𝓤) (W : Given 𝓤 H A) where
   pub vtyped : (v : Passed) (w : Val) → Is N.the-row v (w ∷ []) → T (hasTy N′.mir w) × WT w

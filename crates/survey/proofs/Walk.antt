@@ -12,7 +12,7 @@ use Rattle.call.specs.declared.Call.{Call}
 use Rattle.call.specs.Record.{freeCall}
 use Rattle.survey.specs.declared.Asked.{Asked}
 use Rattle.survey.specs.declared.Passed.{Passed}
-use Rattle.marks.specs.Marks.{isMarked, withMark, unmarked, withRequest}
+use Rattle.marks.specs.Marks.{isMarked, withMark, noMarks, withRequest}
 use Rattle.marks.proofs.Laws.{adds-nothing}
 use Rattle.survey.specs.Survey.{unseenOf, requestIn, passedWith, passedOf, markedOf}
 
@@ -47,7 +47,7 @@ module _ (q : Asked) (n : ℕ) (l : List Call) where
   pub set-full : (i : ℕ) → length (set-by i .1) ≡ 8
   set-full i = marks-full (drop i (take n l))
 
-  pub set-none : unmarked ≡ set-by n
+  pub set-none : noMarks ≡ set-by n
   unfolding markedOf
   set-none = rw (drop-all n l)
 

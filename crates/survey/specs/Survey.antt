@@ -10,7 +10,7 @@ use Rattle.call.specs.declared.Call.{Call}
 use Rattle.call.specs.Record.{isFree, isIncoming, requestOf}
 use Rattle.call.specs.Soundness.{soundCall}
 use Rattle.sound.specs.Cases.{openBy, freeBy}
-use Rattle.marks.specs.Marks.{isMarked, unmarked, withRequest, withFour}
+use Rattle.marks.specs.Marks.{noMarks, withRequest, withFour, toldOf}
 use Rattle.survey.specs.declared.Asked.{Asked}
 use Rattle.survey.specs.declared.Passed.{Passed}
 use Rattle.survey.specs.declared.Noted.{Noted}
@@ -66,18 +66,14 @@ passedOf q n i (c ∷ rest) = passedWith q (passedOf q n (suc i) rest) c i
 
 -- the marks that their open requests set
 unfoldable pub markedOf : List Call → Bool × List ℕ
-markedOf [] = unmarked
+markedOf [] = noMarks
 markedOf (c ∷ rest) = withRequest (markedOf rest) (requestIn c)
 
 -- what the walk tells, of what it noted and what was marked: the station's own requests set their marks too
 abbrev pub summedOf : Passed → Bool × List ℕ → Asked → Noted
-summedOf v s q = record {
-  sound = v .sound;
-  clash = withFour s (q .pending) .0;
-  taken = isMarked (withFour s (q .pending) .1) (q .next);
-  free = v .free;
-  due = v .due;
-}
+summedOf v s q =
+    let m = toldOf (withFour s (q .pending)) (q .next) in
+    record { sound = v .sound; clash = m .clash; marked = m .marked; free = v .free; due = v .due }
 
 -- what is told of a table of n
 abbrev pub surveyOf : Asked → ℕ → List Call → Noted

@@ -28,11 +28,11 @@ struct Passed {
     due: usize,
 }
 
-// What the walk tells: `clash` says that two open requests have one mark, `taken` that the identifier that a request would take first has one.
+// What the walk tells: `clash` says that two open requests have one mark, `marked` that the identifier that a request would take first has one.
 pub struct Noted {
     pub sound: bool,
     pub clash: bool,
-    pub taken: bool,
+    pub marked: bool,
     pub free: usize,
     pub due: usize,
 }
@@ -79,7 +79,7 @@ fn unseen(n: usize) -> Passed
     }
 }
 
-// What is noted with every record: whether it is sound. The places stay.
+// What is noted of a call without an open request: whether it is sound. The places stay.
 fn with_soundness(v: Passed, well: bool) -> Passed
     ensures { λ r. ⌜ r ≡ withSoundness v well ⌝ }
 {
@@ -185,7 +185,7 @@ fn summed(v: Passed, clash: bool, marks: [u64; 8], q: Asked) -> Noted
     Noted {
         sound: v.sound,
         clash: m.clash,
-        taken: m.taken,
+        marked: m.marked,
         free: v.free,
         due: v.due,
     }

@@ -1,5 +1,5 @@
 -- `copy::column` meets its contract: a walk of its MIR, by hand. The slice is looked into once, before the loop, and shut once, after it. A turn reads one record, calls `draw::held_by` and
--- writes the local array, which is the row of its elements from its first store on, and the whole array again after the loop (`Cells`).
+-- writes the local array, which is the row of its elements from its first store on, and the whole array again after the loop (`slice/proofs/Cells`).
 -- Assumes nothing.
 use mathlib.Core.Path.{_≡_, refl, sym, _∙_, ap}
 use Prim.Native.Nat.{ℕ, _+_, _*_, _≤_, _<_, _^_, zero-le}

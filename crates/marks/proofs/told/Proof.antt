@@ -6,8 +6,8 @@ use Rattle.marks.proofs.told.Statement.{statement}
 use Rattle.marks.proofs.told.Tie as tie
 
 -- mostly none of the four waits
-none-waits : tie.Need-returns
-none-waits c =
+at-rest : tie.Need-returns
+at-rest c =
     let a = c .before .before .before .before .args in
     rw (c .is-marked .ensures, four-idle (a .clash, a .t2) (a .p) (sym (c .before .before .before .four-idle .ensures) ∙ c .before .before .if1 .taken))
 
@@ -25,6 +25,6 @@ pub told-spec : {M : Type 1} → statement M
 told-spec =
     tie.close
     (tie.spec
-    (λ c κs. search needs) (λ c κs. search needs) none-waits (λ c κs. search needs)
+    (λ c κs. search needs) (λ c κs. search needs) at-rest (λ c κs. search needs)
     (λ c κs. c .before .mark .ensures .2) (λ c κs. c .before .mark2 .ensures .2) (λ c κs. c .before .mark3 .ensures .2) (λ c κs. c .before .mark4 .ensures .2)
     all-four)

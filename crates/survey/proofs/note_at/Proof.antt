@@ -45,6 +45,7 @@ use Rattle.call.specs.Record.{freeCall, isOutgoing, isIncoming}
 use Rattle.call.proofs.Call.Laws as C′
 use Rattle.sound.specs.Cases.{incomingBy, waitingBy, outgoingBy}
 use Rattle.slice.proofs.Row.{R, cell, shared, typed-at}
+use Rattle.slice.proofs.Reading.{slice-at, Read, read-of, to-read, goes-read}
 use Rattle.slice.proofs.read as read
 use Rattle.slice.proofs.read.Symbol as read-def
 use Rattle.slice.proofs.read.Met as read-thm
@@ -55,8 +56,8 @@ use Rattle.survey.proofs.Asked as Q
 use Rattle.survey.proofs.Asked.Laws as Q′
 use Rattle.survey.proofs.Passed as N
 use Rattle.survey.proofs.Passed.Laws as N′
-use Rattle.survey.proofs.Values.{IsV, IsQ, slice-at, vtyped, qtyped, is-lowered}
-use Rattle.survey.proofs.Arms.{Read, read-of, to-read, goes-read, Open, open-of, to-open, goes-open, open-is, Incoming, incoming-of, to-incoming, goes-incoming, incoming-is, Waiting, waiting-of, to-waiting, goes-waiting, waiting-is, Outgoing, outgoing-of, to-outgoing, goes-outgoing, outgoing-is, Free, free-of, to-free, goes-free, free-is}
+use Rattle.survey.proofs.Values.{IsV, IsQ, vtyped, qtyped, is-lowered}
+use Rattle.survey.proofs.Arms.{Open, open-of, to-open, goes-open, open-is, Incoming, incoming-of, to-incoming, goes-incoming, incoming-is, Waiting, waiting-of, to-waiting, goes-waiting, waiting-is, Outgoing, outgoing-of, to-outgoing, goes-outgoing, outgoing-is, Free, free-of, to-free, goes-free, free-is}
 use Rattle.survey.proofs.note_open as note-open
 use Rattle.survey.proofs.note_open.Symbol as open-def
 use Rattle.survey.proofs.note_open.Met as open-thm

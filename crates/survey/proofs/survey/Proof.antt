@@ -42,6 +42,7 @@ use denote.Triple.Table.{entered, cited}
 use denote.Triple.Walked.{needs, Walks, walked, goes-none-slice, goes-none, walk-meets}
 use Rattle.call.specs.declared.Call.{Call}
 use Rattle.slice.proofs.Row.{R}
+use Rattle.slice.proofs.Reading.{slice-at}
 use Rattle.slice.proofs.Cells.{AU, zeros, avals, mach, amakes, atyped, array-in}
 use Rattle.marks.proofs.word_of.Symbol as word-def
 use Rattle.marks.proofs.word_of.Met as word-thm
@@ -53,7 +54,7 @@ use Rattle.survey.specs.declared.Asked.{Asked}
 use Rattle.survey.specs.declared.Passed.{Passed}
 use Rattle.survey.specs.Survey.{unseenOf}
 use Rattle.survey.proofs.Walk.{seen, seen-none, set-none}
-use Rattle.survey.proofs.Values.{IsQ, slice-at, vtyped, qtyped, is-lowered}
+use Rattle.survey.proofs.Values.{IsQ, vtyped, qtyped, is-lowered}
 use Rattle.survey.proofs.Callees.{Unseen, NoteAt, WordOf, SetIn, PutIn, Summed, unseen-of, to-unseen, goes-unseen}
 use Rattle.survey.proofs.survey.Key.{name as #survey}
 use Rattle.survey.proofs.Asked as Q

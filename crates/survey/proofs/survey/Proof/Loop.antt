@@ -45,6 +45,7 @@ use Rattle.ground.proofs.Bools.{is-true, is-false}
 use Rattle.call.specs.declared.Call.{Call}
 use Rattle.call.specs.Record.{freeCall}
 use Rattle.slice.proofs.Row.{R, shared}
+use Rattle.slice.proofs.Reading.{slice-at}
 use Rattle.slice.proofs.Cells.{AU, cells, zeros, avals, mach, each-zero, atyped, array-out}
 use Rattle.marks.specs.Marks.{wordOf, setIn, putIn, isMarked, withMark}
 use Rattle.marks.proofs.word_of as word-of
@@ -58,7 +59,7 @@ use Rattle.survey.specs.declared.Passed.{Passed}
 use Rattle.survey.specs.declared.Noted.{Noted}
 use Rattle.survey.specs.Survey.{passedWith, summedOf, surveyOf}
 use Rattle.survey.proofs.Walk.{seen, set-by, set-full, seen-next, set-open, set-else}
-use Rattle.survey.proofs.Values.{IsV, IsQ, slice-at, vtyped, is-lowered}
+use Rattle.survey.proofs.Values.{IsV, IsQ, vtyped, is-lowered}
 use Rattle.survey.proofs.Callees.{NoteAt, WordOf, SetIn, PutIn, Summed, note-at-of, word-is, set-in-is, put-in-is, summed-is, to-note-at, to-word, to-set-in, to-put-in, to-summed, goes-note-at, goes-word, goes-set-in, goes-put-in, goes-summed}
 use Rattle.survey.proofs.Asked as Q
 use Rattle.survey.proofs.Asked.Laws as Q′
