@@ -146,7 +146,8 @@ fn every_bit(work: &Workload) {
     }
 }
 
-/// Identifiers whose marks in the plain engine's test are the same one.
+/// Identifiers whose marks are the same one, in the plain engine's test and in
+/// the library's.
 fn one_mark() {
     let request = |i: u16| Record {
         direction: INCOMING,
@@ -185,8 +186,41 @@ fn one_mark() {
         same(&shared);
         assert!(by_model(&shared).0.code == 1);
     }
+    drawn_beside_marks(&full);
     case.table[63].identifier = case.table[0].identifier;
     same(&case);
+}
+
+/// A divert takes the next identifier where it has no mark, where it has the
+/// mark of others that are not the same, and not where an open request has it.
+fn drawn_beside_marks(full: &Case) {
+    let mut divert = full.clone();
+    divert.table[5] = Record {
+        direction: INCOMING,
+        basic: PROCEEDING,
+        own: 1,
+        ..Record::default()
+    };
+    divert.event = Event {
+        kind: USER_DIVERTS,
+        call: 5,
+        reason: CFU,
+        second: 7,
+        ..Event::default()
+    };
+    // 1 is a call's and 2 the station's
+    for (next, drawn) in [
+        (7, 7),
+        (1 + 512, 1 + 512),
+        (2 + 512, 2 + 512),
+        (1, 3),
+        (2, 3),
+    ] {
+        divert.station.next_identifier = next;
+        same(&divert);
+        let (answer, ..) = by_model(&divert);
+        assert!(answer.code == 0 && answer.identifier == drawn);
+    }
 }
 
 /// A list of events from the panel's start, one by one, and all of it in a run.

@@ -144,8 +144,8 @@ module _ {M : Type 1} (𝓤 : URA M) (H : Heap 𝓤) (A : Atoms 𝓤) (mem : Mem
   pub asked-of : (input : Input) (t : Asked) → ent 𝓤 (ensured 𝓤 H A asked.ended (asked.clauses 𝓤 H A mem run) tt (input, tt) tt t) (fact 𝓤 (t ≡ askedOf input))
   asked-of input t = exE 𝓤 _ (λ ws. snd∗ 𝓤 (sem 𝓤 H A (lasts asked.ended tt (input, tt) ws)) (fact 𝓤 (t ≡ askedOf input)))
 
-  pub survey-of : (κ : Lft) (x : RefT (List Call)) (n : ℕ) (q₁ : Asked) (t : Noted) → ent 𝓤 (ensured 𝓤 H A survey.ended (survey.clauses 𝓤 H A mem run) (κ, tt) (x, (n, (q₁, tt))) tt t) (fact 𝓤 (t ≡ surveyOf q₁ n 0 (take n (x .now))))
-  survey-of κ x n q₁ t = exE 𝓤 _ (λ ws. snd∗ 𝓤 (sem 𝓤 H A (lasts survey.ended (κ, tt) (x, (n, (q₁, tt))) ws)) (fact 𝓤 (t ≡ surveyOf q₁ n 0 (take n (x .now)))))
+  pub survey-of : (κ : Lft) (x : RefT (List Call)) (n : ℕ) (q₁ : Asked) (t : Noted) → ent 𝓤 (ensured 𝓤 H A survey.ended (survey.clauses 𝓤 H A mem run) (κ, tt) (x, (n, (q₁, tt))) tt t) (fact 𝓤 (t ≡ surveyOf q₁ n (take n (x .now))))
+  survey-of κ x n q₁ t = exE 𝓤 _ (λ ws. snd∗ 𝓤 (sem 𝓤 H A (lasts survey.ended (κ, tt) (x, (n, (q₁, tt))) ws)) (fact 𝓤 (t ≡ surveyOf q₁ n (take n (x .now)))))
 
   pub place-of : (v : Noted) (input : Input) (t : ℕ) → ent 𝓤 (ensured 𝓤 H A place.ended (place.clauses 𝓤 H A mem run) tt (v, (input, tt)) tt t) (fact 𝓤 (t ≡ placeSeen v input))
   place-of v input t = exE 𝓤 _ (λ ws. snd∗ 𝓤 (sem 𝓤 H A (lasts place.ended tt (v, (input, tt)) ws)) (fact 𝓤 (t ≡ placeSeen v input)))

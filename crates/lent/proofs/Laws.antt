@@ -15,7 +15,7 @@ use Rattle.ground.proofs.Walks.{and-false}
 use Rattle.event.specs.declared.Event.{Event}
 use Rattle.event.specs.Kinds.{diverts}
 use Rattle.event.specs.Remote.{asks}
-use Rattle.identifier.specs.Identifier.{distinct}
+use Rattle.identifier.specs.Identifier.{distinct, firstFree}
 use Rattle.call.specs.declared.Call.{Call}
 use Rattle.call.specs.Record.{isFree}
 use Rattle.call.specs.Incoming.{due}
@@ -36,7 +36,7 @@ use Rattle.table.proofs.Columns.{column-apart}
 use Rattle.survey.specs.declared.Noted.{Noted}
 use Rattle.survey.specs.Survey.{surveyOf}
 use Rattle.survey.proofs.Laws.{survey-sound, survey-free, survey-due}
-use Rattle.survey.proofs.Four.{four-clash}
+use Rattle.survey.proofs.Covers.{told-apart, told-free}
 use Rattle.sight.specs.declared.Seen.{Seen}
 use Rattle.turn.specs.declared.Turn.{Turn}
 use Rattle.turn.specs.declared.Turn.the-variants.{Refused, Far, Done}
@@ -46,7 +46,7 @@ use Rattle.turn.specs.Turn.{seenIn, turnOf, movedOf, decidedOf, Sees}
 use Rattle.turn.proofs.Laws.{sees-in, same-act, same-moved, same-next, same-station, turn-same}
 use Rattle.pick.specs.declared.Input.{Input}
 use Rattle.pick.specs.declared.Pick.{Pick}
-use Rattle.pick.specs.Pick.{askedOf, placeSeen, pendingIn, clashIn, wantsColumn, fromColumn, asItStands, pickedOf}
+use Rattle.pick.specs.Pick.{askedOf, placeSeen, pendingIn, wantsColumn, fromColumn, asItStands, pickedOf}
 use Rattle.decision.specs.Decision.{decisionOf, decisionOn, seenBy, decisionBy}
 use Rattle.decision.proofs.Laws.{There, turn-there}
 
@@ -106,7 +106,7 @@ module _ (input : Input) (ys : List Call) where
 
   -- what is noted of the whole table, and picked
   abbrev Whole : Noted
-  Whole = surveyOf (askedOf input) (length ys) 0 ys
+  Whole = surveyOf (askedOf input) (length ys) ys
 
   abbrev Chosen : Pick
   Chosen = pickedOf input Whole (length ys) ys
@@ -123,9 +123,6 @@ module _ (input : Input) (ys : List Call) where
   column-drawn : request ≡ true → identifierIn e (columnOf (length ys) ys) p (s .next) ≡ identifierFor s ys
   column-drawn d = rw d (joined-free 69 (over (length ys) ys frees) p (s .next) ∙ rw (requests-over (length ys) ys, take-length ys))
 
-  chosen-drawn : request ≡ true → Chosen .identifier ≡ identifierFor s ys
-  chosen-drawn d = by-cases (clashIn Whole input) (λ t. rw t (column-drawn d)) (λ f. rw (f, d) (rw d at (column-drawn d)))
-
   all-apart : apartIn (joinedOf (columnOf (length ys) ys) p) ≡ distinct (openIdentifiers s ys)
   all-apart = column-apart (length ys) ys p ∙ rw (take-length ys)
 
@@ -137,15 +134,26 @@ module _ (input : Input) (ys : List Call) where
     same-place : placeSeen Whole input ≡ place ys e
     same-place = rw (free-place, due-place)
 
-    no-clash : clashIn Whole input ≡ false → true ≡ distinct (openIdentifiers s ys)
-    no-clash f = sym (four-clash (askedOf input) (length ys) 0 ys p well f)
+    no-clash : Whole .clash ≡ false → true ≡ distinct (openIdentifiers s ys)
+    no-clash f = sym (told-apart (askedOf input) (length ys) ys well f)
+
+    -- the next identifier is drawn where it has no mark
+    next-drawn : Whole .marked ≡ false → s .next ≡ identifierFor s ys
+    unfolding firstFree
+    next-drawn f = rw (told-free (askedOf input) (length ys) ys well f)
 
     -- what is picked: no two identifiers are the same, and a request's is the definition's
     chosen-apart : Chosen .apart ≡ distinct (openIdentifiers s ys)
     chosen-apart =
-        by-cases (clashIn Whole input)
+        by-cases (Whole .clash)
         (λ t. rw t all-apart)
-        (λ f. by-cases request (λ d. rw (f, d) (no-clash f)) (λ d. rw (f, d) (no-clash f)))
+        (λ f. by-cases (Whole .marked && request) (λ d. rw (f, d) (no-clash f)) (λ d. rw (f, d) (no-clash f)))
+
+    chosen-drawn : request ≡ true → Chosen .identifier ≡ identifierFor s ys
+    chosen-drawn d =
+        by-cases (Whole .clash)
+        (λ t. rw t (column-drawn d))
+        (λ f. by-cases (Whole .marked) (λ t. rw (f, t, d) (rw d at (column-drawn d))) (λ u. rw (f, u) (next-drawn u)))
 
     sees-table : Sees s ys e (seenBy input Whole (length ys) Chosen (at ys (placeSeen Whole input)))
     sees-table = record {
@@ -201,7 +209,7 @@ module _ (input : Input) (ys : List Call) (h : 64 < length ys) where
 
 -- ---- any table
 module _ (input : Input) (ys : List Call) (n : ℕ) (v : Noted) (i : ℕ) (c : Call) (p : Pick) (e₁ : n ≡ fitOf (length ys))
-    (e₂ : v ≡ surveyOf (askedOf input) n 0 (take n ys)) (e₃ : i ≡ placeSeen v input) (e₄ : c ≡ at (take n ys) i) (e₅ : p ≡ pickedOf input v n ys) where
+    (e₂ : v ≡ surveyOf (askedOf input) n (take n ys)) (e₃ : i ≡ placeSeen v input) (e₄ : c ≡ at (take n ys) i) (e₅ : p ≡ pickedOf input v n ys) where
   pub looked-is : decisionBy input v n p c ≡ decisionOn (input .station) ys (input .event)
   looked-is =
       by-cases (leb (length ys) 64)

@@ -4,7 +4,7 @@ ghost use mathlib.Core.Path.{_≡_};
 ghost use Prim.Native.Nat.{_-_};
 ghost use lib.ListN.{length};
 ghost use Rattle.timed.specs.Timed.{t1};
-ghost use Rattle.pick.specs.Pick.{askedOf, placeSeen, clashIn, wantsColumn, apartWhere, fromColumn, asItStands};
+ghost use Rattle.pick.specs.Pick.{askedOf, placeSeen, wantsColumn, apartWhere, fromColumn, asItStands};
 use event::Event;
 use station::Station;
 use survey::Asked;
@@ -40,7 +40,14 @@ pub fn asked(input: Input) -> Asked
 {
     let last = input.station.last;
     let by = due_before(input.event.time);
-    Asked { last: last, by: by }
+    let next = input.station.next;
+    let pending = input.station.remote.pending;
+    Asked {
+        last: last,
+        by: by,
+        next: next,
+        pending: pending,
+    }
 }
 
 // Where the event acts.
@@ -51,22 +58,13 @@ pub fn place_seen(v: Noted, input: Input) -> usize
     sight::place_of(e, v.free, v.due)
 }
 
-// Whether two open requests have one mark, of calls or of the station's own.
-fn clash_in(v: Noted, input: Input) -> bool
-    ensures { λ r. ⌜ r ≡ clashIn v input ⌝ }
-{
-    let p = input.station.remote.pending;
-    let w = survey::with_four(v, p);
-    w.clash
-}
-
-// The column of identifiers is needed where two marks are the same, and for a request.
+// The column of identifiers is needed where two marks are the same, and for a request where the identifier that it would take first has one.
 pub fn wants_column(v: Noted, input: Input) -> bool
     ensures { λ r. ⌜ r ≡ wantsColumn v input ⌝ }
 {
     let kind = input.event.kind;
-    let clash = clash_in(v, input);
-    clash | ((kind == 6) | ((16 <= kind) & (kind <= 19)))
+    let asks = (kind == 6) | ((16 <= kind) & (kind <= 19));
+    v.clash | (v.marked & asks)
 }
 
 // Identifiers are compared only where two marks are the same.
@@ -84,9 +82,8 @@ pub fn from_column(input: Input, v: Noted, held: [u32; 64]) -> Pick
     let e = input.event;
     let next = input.station.next;
     let p = input.station.remote.pending;
-    let clash = clash_in(v, input);
     let all = draw::joined(&held, p);
-    let apart = apart_where(clash, &all);
+    let apart = apart_where(v.clash, &all);
     let identifier = draw::identifier_in(e, &held, p, next);
     Pick {
         apart: apart,
@@ -94,7 +91,7 @@ pub fn from_column(input: Input, v: Noted, held: [u32; 64]) -> Pick
     }
 }
 
-// All marks differ, and no identifier is asked for.
+// All marks differ; and no identifier is asked for, or the next one has no mark.
 pub fn as_it_stands(input: Input) -> Pick
     ensures { λ r. ⌜ r ≡ asItStands input ⌝ }
 {

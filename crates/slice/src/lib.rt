@@ -14,7 +14,7 @@ pub fn fit(len: usize) -> usize
     if len <= 64 { len } else { 0 }
 }
 
-// The record at a place that is in the slice: `survey` reads one more than once.
+// The record at a place that is in the slice.
 pub fn read(table: &[Call], i: usize) -> Call
     requires { ⌜ i < length (now table) ⌝ }
     ensures { λ r. ⌜ r ≡ getD (now (table .entry)) i freeCall ⌝ }
@@ -28,7 +28,7 @@ pub fn record_at(table: &[Call], n: usize, i: usize) -> Call
     ensures { λ r. ⌜ r ≡ at (take n (now (table .entry))) i ⌝ }
 {
     if i < n {
-        return table[i];
+        return read(table, i);
     }
     blank::free_call()
 }

@@ -1,7 +1,6 @@
 pub mod Arms
-pub mod Bits
 pub mod Callees
-pub mod Four
+pub mod Covers
 pub mod Laws
 pub mod Values
 pub mod Walk

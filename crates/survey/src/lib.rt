@@ -1,48 +1,40 @@
 // The walk over the records that a host lends. `survey`, from the last to the first, notes what a step asks of the whole table in
-// a few numbers, to which `with_four` adds the requests that the station holds.
+// a few numbers, and marks the identifiers of its open requests; those that the station holds are marked with them.
 ghost use mathlib.Core.Path.{_≡_};
 ghost use Prim.Native.Nat.{_≤_, _<_};
 ghost use lib.ListN.{length, take, getD};
 ghost use Rattle.call.specs.Record.{freeCall, requestOf};
 ghost use Rattle.sound.specs.Cases.{incomingBy, waitingBy, outgoingBy};
-ghost use Rattle.survey.specs.Survey.{has, withBit, slotOf, freeWith, dueWith, marksWith, clashWith, unseenOf, notedOf, withSoundness, notedOpen, notedFree, surveyOf, withPending, withFour};
+ghost use Rattle.survey.specs.Survey.{freeWith, dueWith, unseenOf, passedWith, withSoundness, passedOpen, passedFree, summedOf, surveyOf};
 use call::Call;
 use remote::Pendings;
 use timed::Pending;
 
-// What is asked beside the table: the station's last time, and the time below which an open request's start is due.
+// What is asked beside the table: the station's last time, the time below which an open request's start is due, the identifier that a request would
+// take first, and the requests that the station itself holds.
 pub struct Asked {
     pub last: u64,
     pub by: u64,
+    pub next: u16,
+    pub pending: Pendings,
 }
 
-// What is noted of the records from a place on. `marks` has a bit for the identifier (modulo 64) of each open request; `clash`
-// says that a bit was set twice.
+// What is noted of the records from a place on; whether a request is open, and its identifier, of the record at that place alone.
+struct Passed {
+    sound: bool,
+    requested: bool,
+    identifier: u16,
+    free: usize,
+    due: usize,
+}
+
+// What the walk tells: `clash` says that two open requests have one mark, `marked` that the identifier that a request would take first has one.
 pub struct Noted {
     pub sound: bool,
     pub clash: bool,
+    pub marked: bool,
     pub free: usize,
     pub due: usize,
-    pub marks: u64,
-}
-
-// Whether a mask has bit k.
-fn has(mask: u64, k: u64) -> bool
-    requires { ⌜ k < 64 ⌝ }
-    ensures { λ r. ⌜ r ≡ has mask k ⌝ }
-{
-    (mask >> k) % 2 == 1
-}
-
-// A mask with bit k.
-fn with_bit(mask: u64, k: u64) -> u64
-    requires { ⌜ k < 64 ⌝ }
-    ensures { λ r. ⌜ r ≡ withBit mask k ⌝ }
-{
-    if has(mask, k) {
-        return mask;
-    }
-    mask + bits::bit(k as usize)
 }
 
 // The request of a record.
@@ -54,13 +46,6 @@ fn request_of(c: Call) -> Pending
         identifier: c.identifier,
         wait: c.cds,
     }
-}
-
-// The bit that marks a request's identifier.
-fn slot_of(p: Pending) -> u64
-    ensures { λ r. ⌜ r ≡ slotOf p ⌝ }
-{
-    (p.identifier % 64) as u64
 }
 
 // The lowest free place from i on, where the one after i is given.
@@ -81,76 +66,51 @@ fn due_with(due: usize, p: Pending, i: usize, by: u64) -> usize
     }
 }
 
-// The marks of the open requests.
-fn marks_with(marks: u64, p: Pending) -> u64
-    ensures { λ r. ⌜ r ≡ marksWith marks p ⌝ }
-{
-    if p.wait == 1 {
-        let k = slot_of(p);
-        return with_bit(marks, k);
-    }
-    marks
-}
-
-// Whether two open requests have one mark.
-fn clash_with(clash: bool, marks: u64, p: Pending) -> bool
-    ensures { λ r. ⌜ r ≡ clashWith clash marks p ⌝ }
-{
-    if p.wait == 1 {
-        let k = slot_of(p);
-        let twice = has(marks, k);
-        return clash | twice;
-    }
-    clash
-}
-
 // Nothing was seen yet of a table of n.
-fn unseen(n: usize) -> Noted
+fn unseen(n: usize) -> Passed
     ensures { λ r. ⌜ r ≡ unseenOf n ⌝ }
 {
-    Noted {
+    Passed {
         sound: true,
-        clash: false,
+        requested: false,
+        identifier: 0,
         free: n,
         due: n,
-        marks: 0,
     }
 }
 
-// What is noted with every record: whether it is sound. All else stays.
-fn with_soundness(v: Noted, well: bool) -> Noted
+// What is noted of a call without an open request: whether it is sound. The places stay.
+fn with_soundness(v: Passed, well: bool) -> Passed
     ensures { λ r. ⌜ r ≡ withSoundness v well ⌝ }
 {
-    Noted {
+    Passed {
         sound: well & v.sound,
-        clash: v.clash,
+        requested: false,
+        identifier: 0,
         free: v.free,
         due: v.due,
-        marks: v.marks,
     }
 }
 
 // What is noted with the record at i, by cases: an incoming call with an open request,
-fn note_open(v: Noted, c: Call, i: usize, q: Asked) -> Noted
-    ensures { λ r. ⌜ r ≡ notedOpen q v c i ⌝ }
+fn note_open(v: Passed, c: Call, i: usize, q: Asked) -> Passed
+    ensures { λ r. ⌜ r ≡ passedOpen q v c i ⌝ }
 {
     let p = request_of(c);
     let well = sound::sound_open(c, q.last);
-    let clash = clash_with(v.clash, v.marks, p);
     let due = due_with(v.due, p, i, q.by);
-    let marks = marks_with(v.marks, p);
     let w = with_soundness(v, well);
-    Noted {
+    Passed {
         sound: w.sound,
-        clash: clash,
+        requested: true,
+        identifier: c.identifier,
         free: w.free,
         due: due,
-        marks: marks,
     }
 }
 
 // an incoming call with none,
-fn note_incoming(v: Noted, c: Call) -> Noted
+fn note_incoming(v: Passed, c: Call) -> Passed
     ensures { λ r. ⌜ r ≡ withSoundness v (incomingBy c) ⌝ }
 {
     let well = sound::sound_incoming(c);
@@ -158,7 +118,7 @@ fn note_incoming(v: Noted, c: Call) -> Noted
 }
 
 // an outgoing call with CDR Invoked,
-fn note_waiting(v: Noted, c: Call) -> Noted
+fn note_waiting(v: Passed, c: Call) -> Passed
     ensures { λ r. ⌜ r ≡ withSoundness v (waitingBy c) ⌝ }
 {
     let well = sound::sound_waiting(c);
@@ -166,7 +126,7 @@ fn note_waiting(v: Noted, c: Call) -> Noted
 }
 
 // an outgoing call outside Invoked,
-fn note_outgoing(v: Noted, c: Call) -> Noted
+fn note_outgoing(v: Passed, c: Call) -> Passed
     ensures { λ r. ⌜ r ≡ withSoundness v (outgoingBy c) ⌝ }
 {
     let well = sound::sound_outgoing(c);
@@ -174,25 +134,25 @@ fn note_outgoing(v: Noted, c: Call) -> Noted
 }
 
 // or no call.
-fn note_free(v: Noted, c: Call, i: usize) -> Noted
-    ensures { λ r. ⌜ r ≡ notedFree v c i ⌝ }
+fn note_free(v: Passed, c: Call, i: usize) -> Passed
+    ensures { λ r. ⌜ r ≡ passedFree v c i ⌝ }
 {
     let well = sound::sound_free(c);
     let free = free_with(v.free, c, i);
     let w = with_soundness(v, well);
-    Noted {
+    Passed {
         sound: w.sound,
-        clash: w.clash,
+        requested: false,
+        identifier: 0,
         free: free,
         due: w.due,
-        marks: w.marks,
     }
 }
 
 // What is noted with the record at k. Each case reads the record once more: what it doesn't look at is then not loaded.
-fn note_at(table: &[Call], k: usize, v: Noted, q: Asked) -> Noted
+fn note_at(table: &[Call], k: usize, v: Passed, q: Asked) -> Passed
     requires { ⌜ k < length (now table) ⌝ }
-    ensures { λ r. ⌜ r ≡ notedOf q v (getD (now (table .entry)) k freeCall) k ⌝ }
+    ensures { λ r. ⌜ r ≡ passedWith q v (getD (now (table .entry)) k freeCall) k ⌝ }
 {
     let head = slice::read(table, k);
     if head.direction == 2 {
@@ -217,45 +177,41 @@ fn note_at(table: &[Call], k: usize, v: Noted, q: Asked) -> Noted
     note_free(v, c, k)
 }
 
-// What is noted of the first n records of the table.
+// What the walk tells, of what it noted and what was marked.
+fn summed(v: Passed, clash: bool, marks: [u64; 8], q: Asked) -> Noted
+    ensures { λ r. ⌜ r ≡ summedOf v (clash, marks) q ⌝ }
+{
+    let m = marks::told(clash, marks, q.pending, q.next);
+    Noted {
+        sound: v.sound,
+        clash: m.clash,
+        marked: m.marked,
+        free: v.free,
+        due: v.due,
+    }
+}
+
+// What is told of the first n records of the table. The loop sets the marks itself: handed on with a record, they would be copied with each.
 pub fn survey(table: &[Call], n: usize, q: Asked) -> Noted
     requires { ⌜ n ≤ length (now table) ⌝ }
-    ensures { λ r. ⌜ r ≡ surveyOf q n 0 (take n (now (table .entry))) ⌝ }
+    ensures { λ r. ⌜ r ≡ surveyOf q n (take n (now (table .entry))) ⌝ }
 {
     let mut v = unseen(n);
+    let mut marks = [0u64; 8];
+    let mut clash = false;
     let mut i = n;
     while 0 < i {
         let k = i - 1;
         v = note_at(table, k, v, q);
         i = k;
+        if v.requested {
+            let w = marks::word_of(v.identifier);
+            let word = marks[w];
+            let twice = marks::set_in(word, v.identifier);
+            clash = clash | twice;
+            let more = marks::put_in(word, v.identifier);
+            marks[w] = more;
+        }
     }
-    v
-}
-
-// What is noted with a request that is no record's.
-fn with_pending(v: Noted, p: Pending) -> Noted
-    ensures { λ r. ⌜ r ≡ withPending v p ⌝ }
-{
-    let clash = clash_with(v.clash, v.marks, p);
-    let marks = marks_with(v.marks, p);
-    Noted {
-        sound: v.sound,
-        clash: clash,
-        free: v.free,
-        due: v.due,
-        marks: marks,
-    }
-}
-
-// What is noted with the four requests that a station may hold; mostly none waits.
-pub fn with_four(v: Noted, p: Pendings) -> Noted
-    ensures { λ r. ⌜ r ≡ withFour v p ⌝ }
-{
-    if holding::four_idle(p) {
-        return v;
-    }
-    let activation = with_pending(v, p.activation);
-    let deactivation = with_pending(activation, p.deactivation);
-    let interrogation = with_pending(deactivation, p.interrogation);
-    with_pending(interrogation, p.check)
+    summed(v, clash, marks, q)
 }

@@ -1,4 +1,4 @@
--- Marks by the low digits of an identifier: where a mark is not set, no identifier that set one is the same. Assumes nothing.
+-- The marks of `table::apart`, by an identifier modulo 256: where one is not set, no identifier that set one is the same. Assumes nothing.
 use Prim.Native.Nat.{ℕ, zero, suc, _+_, _%_, _≤_, _<_}
 use mathlib.Core.Bool.{Bool, true, false, _||_, not, false≢true}
 use mathlib.Core.List.{List, [], _∷_}

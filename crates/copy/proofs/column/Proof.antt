@@ -1,5 +1,5 @@
 -- `copy::column` meets its contract: a walk of its MIR, by hand. The slice is looked into once, before the loop, and shut once, after it. A turn reads one record, calls `draw::held_by` and
--- writes the local array, which is the row of its elements from its first store on, and the whole array again after the loop (`Cells`).
+-- writes the local array, which is the row of its elements from its first store on, and the whole array again after the loop (`slice/proofs/Cells`).
 -- Assumes nothing.
 use mathlib.Core.Path.{_≡_, refl, sym, _∙_, ap}
 use Prim.Native.Nat.{ℕ, _+_, _*_, _≤_, _<_, _^_, zero-le}
@@ -55,7 +55,8 @@ use Rattle.draw.proofs.held_by.Symbol as held-def
 use Rattle.draw.proofs.held_by.Met as held-thm
 use Rattle.slice.proofs.Row.{R, cell, bytes, shared, vals, tells, makes, typed, copies}
 use Rattle.slice.proofs.Upto.{Upto, Nearer, Nearer-wf}
-use Rattle.copy.proofs.Cells.{AU, cells, zeros, avals, mach, is-zeros, amakes, atyped, array-in, array-out, held-length}
+use Rattle.slice.proofs.Cells.{amakes, atyped, array-in, array-out}
+use Rattle.copy.proofs.Cells.{AU, cells, zeros, avals, mach, is-zeros, held-length}
 use Rattle.copy.proofs.column.Key.{name as #copy·column}
 use Rattle.copy.proofs.column as column′
 use Rattle.copy.proofs.column.Statement as stated
@@ -206,9 +207,9 @@ module _ {M : Type 1} (𝓤 : URA M) (H : Heap 𝓤) (A : Atoms 𝓤) (W : Given
         assigns ! (bin ! (load ! (from ! (stop !)) (look ! 2 refl)) (load ! (from ! (stop !)) (look ! 12 refl)) tt) (from ! (stop !)) (init ! 5 refl (tt, tt)) $
         rewrite ! 5 (λ (t : Bool). ‵ (fat fullShare tyBool l₇ 0 (vbool t))) e refl $ leaves-loop ! (load ! (from ! (stop !)) (look ! 5 refl)) $ exec ! C Λ En mir.t-4 (atRet En Post) $
         -- the array is whole again, and is the result; the slice is shut
-        move ! (1 ∷ []) $ use1 W (‵ (fat fullShare cells l₃ 0 (mach (acc (i .0)))) ⊛ ‵ (AU .own (acc (i .0)) (avals (acc (i .0))))) (array-out 𝓤 H A W (acc (i .0)) l₃ (acc-length (i .0) (i .1))) $ split ! $
+        move ! (1 ∷ []) $ use1 W (‵ (fat fullShare cells l₃ 0 (mach (acc (i .0)))) ⊛ ‵ (AU .own (acc (i .0)) (avals (acc (i .0))))) (array-out w32 64 𝓤 H A W (acc (i .0)) l₃ (acc-length (i .0) (i .1))) $ split ! $
         move ! (1 ∷ []) $ peeks ! AU (Is AU) (shows 𝓤 H A AU) (acc (i .0)) (avals (acc (i .0))) (λ g. move ! (1 ∷ 0 ∷ []) $
-        assigns ! (of-opd ! (load ! (from ! (stop !)) (look ! 0 refl))) (from ! (stop !)) (init ! 14 refl (atyped 𝓤 H A W (acc (i .0)) g)) $
+        assigns ! (of-opd ! (load ! (from ! (stop !)) (look ! 0 refl))) (from ! (stop !)) (init ! 14 refl (atyped w32 64 𝓤 H A W (acc (i .0)) (mach (acc (i .0))) g)) $
         move ! (2 ∷ 15 ∷ []) $ shuts-slice ! tt R q′ ys b o $ move ! (0 ∷ 15 ∷ 16 ∷ []) $
         -- [the token; the fractured borrow; res; _3; what the array owns; _4; _5; …; _12; _1; _2; _0; that each dies]
         returns ! (look ! 16 refl) $ forget ! 3 refl $ forget ! 5 refl $ forget ! 8 refl $ forget ! 14 refl $ forget ! 15 refl $ forget ! 16 refl $
@@ -226,12 +227,12 @@ module _ {M : Type 1} (𝓤 : URA M) (H : Heap 𝓤) (A : Atoms 𝓤) (W : Given
       alloc1 ! (λ l₀. alloc1 ! (λ l₁. alloc1 ! (λ l₂. alloc1 ! (λ l₃. alloc1 ! (λ l₄. alloc1 ! (λ l₅. alloc1 ! (λ l₆. alloc1 ! (λ l₇. alloc1 ! (λ l₈. alloc1 ! (λ l₉. alloc1 ! (λ l₁₀. alloc1 ! (λ l₁₁. alloc1 ! (λ l₁₂. alloc0 ! $ params1 ! $
       pass1 ! (init ! 22 refl (tt, (tt, (record { fits = room .0 }, tt)))) $ pass1 ! (init ! 20 refl (tt, record { fits = gn })) $ pass0 ! $
       -- [_12; …; _0; …], local k at 2 · (12 − k)
-      assigns ! (rep ! 64 (lit ! tt)) (from ! (stop !)) (init ! 18 refl (atyped 𝓤 H A W zeros is-zeros)) $
+      assigns ! (rep ! 64 (lit ! tt)) (from ! (stop !)) (init ! 18 refl (atyped w32 64 𝓤 H A W zeros (mach zeros) is-zeros)) $
       assigns ! (of-opd ! (lit ! tt)) (from ! (stop !)) (init ! 16 refl (tt, record { fits = lit< tt })) $
       -- the slice is looked into
       move ! (27 ∷ []) $ fsplit ! $ fsplit ! $ move ! (1 ∷ []) $ fsplit ! $ move ! (30 ∷ []) $ split ! $ move ! (3 ∷ 0 ∷ []) $ looks-slice ! tt R (Is R) (shows 𝓤 H A R) vals tells (copies 𝓤 H A W) ys b o (λ q′.
       -- the local array is the row of its elements
-      move ! (25 ∷ []) $ owned ! AU (Is AU) (amakes 𝓤 H A W) zeros (avals zeros) is-zeros $ move ! (1 ∷ 0 ∷ []) $ use2 W (‵ (row u32 fullShare zeros l₃ 0)) (array-in 𝓤 H A W zeros l₃) $
+      move ! (25 ∷ []) $ owned ! AU (Is AU) (amakes w32 64 𝓤 H A W) zeros (avals zeros) is-zeros $ move ! (1 ∷ 0 ∷ []) $ use2 W (‵ (row u32 fullShare zeros l₃ 0)) (array-in w32 64 𝓤 H A W zeros l₃) $
       keep ! (1 ∷ 0 ∷ 24 ∷ 22 ∷ 20 ∷ 18 ∷ 16 ∷ 14 ∷ 12 ∷ 10 ∷ 8 ∷ 29 ∷ 27 ∷ 31 ∷ 2 ∷ 3 ∷ 5 ∷ 32 ∷ 30 ∷ 28 ∷ 26 ∷ 25 ∷ 23 ∷ 21 ∷ 19 ∷ 17 ∷ 15 ∷ 13 ∷ 11 ∷ 9 ∷ []) $
       looped 𝓣 fm known-held q′ l₀ l₁ l₂ l₃ l₄ l₅ l₆ l₇ l₈ l₉ l₁₀ l₁₁ l₁₂ (0, zero-le)))))))))))))))
 

@@ -124,8 +124,8 @@ module _ {M : Type 1} (𝓤 : URA M) (H : Heap 𝓤) (A : Atoms 𝓤) (W : Given
       owned ! D.the-row (Is D.the-row) (LL.makes D.the-type D′.the-plain 𝓤 H A) d (D′.lowered d ∷ []) g $ move ! (1 ∷ 0 ∷ []) $ done !
 
   -- what the survey was asked is what the input asks
-  noted : (v : Noted) (n : ℕ) (r : Asked) → r ≡ askedOf input → v ≡ surveyOf r n 0 (take n ys) → v ≡ surveyOf (askedOf input) n 0 (take n ys)
-  noted v n r e₂ e₃ = e₃ ∙ ap (λ (k : Asked). surveyOf k n 0 (take n ys)) e₂
+  noted : (v : Noted) (n : ℕ) (r : Asked) → r ≡ askedOf input → v ≡ surveyOf r n (take n ys) → v ≡ surveyOf (askedOf input) n (take n ys)
+  noted v n r e₂ e₃ = e₃ ∙ ap (λ (k : Asked). surveyOf k n (take n ys)) e₂
 
   -- the decision is returned; each value is a variable here. What table owns; the token; local k at 20 − 2 · k, and after it that it dies
   module _ (C : Calls 𝓤 H) (Λ : Loops 𝓤 H) (l₀ l₁ l₂ l₃ l₄ l₅ l₆ l₇ l₈ l₉ : ℕ) (v₂ v₃ v₄ v₅ v₆ v₇ v₈ v₉ v₀ : Val) (told : ent 𝓤 (⋆ 𝓤 H A (‵ Own ∷ ‵ (flft κ q) ∷ [])) (Post v₀)) where
@@ -146,7 +146,7 @@ module _ {M : Type 1} (𝓤 : URA M) (H : Heap 𝓤) (A : Atoms 𝓤) (W : Given
 
   -- from `picked` on
   module _ (C : Calls 𝓤 H) (Λ : Loops 𝓤 H) (fm : FmC 𝓤 H (W .laws) C) (known-picked : Triple 𝓤 (C picked-def.name) (Picks 𝓤 H A mem run)) (known-decided : Triple 𝓤 (C decided-def.name) (Decide 𝓤 H A mem run))
-      (l₀ l₁ l₂ l₃ l₄ l₅ l₆ l₇ l₈ l₉ : ℕ) (n : ℕ) (gn : n < 2 ^ 64) (e₁ : n ≡ fitOf (length ys)) (r : Asked) (e₂ : r ≡ askedOf input) (v : Noted) (gv : IsN v) (e₃ : v ≡ surveyOf r n 0 (take n ys)) (i : ℕ) (e₄ : i ≡ placeSeen v input) (c : Call) (gc : Is R c (vals c)) (e₅ : c ≡ record-of (take n ys) i) where
+      (l₀ l₁ l₂ l₃ l₄ l₅ l₆ l₇ l₈ l₉ : ℕ) (n : ℕ) (gn : n < 2 ^ 64) (e₁ : n ≡ fitOf (length ys)) (r : Asked) (e₂ : r ≡ askedOf input) (v : Noted) (gv : IsN v) (e₃ : v ≡ surveyOf r n (take n ys)) (i : ℕ) (e₄ : i ≡ placeSeen v input) (c : Call) (gc : Is R c (vals c)) (e₅ : c ≡ record-of (take n ys) i) where
     abbrev En : Env 𝓤 H
     En = (D′.mir, l₀) ∷ (shared, l₁) ∷ (I′.mir, l₂) ∷ (tyInt w64, l₃) ∷ (Q′.mir, l₄) ∷ (N′.mir, l₅) ∷ (tyInt w64, l₆) ∷ (cell, l₇) ∷ (P′.mir, l₈) ∷ (tyInt w64, l₉) ∷ []
 
@@ -178,7 +178,7 @@ module _ {M : Type 1} (𝓤 : URA M) (H : Heap 𝓤) (A : Atoms 𝓤) (W : Given
 
   -- from `place_seen` on
   module _ (C : Calls 𝓤 H) (Λ : Loops 𝓤 H) (fm : FmC 𝓤 H (W .laws) C) (known-place : Triple 𝓤 (C place-def.name) (Place 𝓤 H A mem run)) (known-read : Triple 𝓤 (C read-def.name) (Read 𝓤 H A mem run)) (known-picked : Triple 𝓤 (C picked-def.name) (Picks 𝓤 H A mem run)) (known-decided : Triple 𝓤 (C decided-def.name) (Decide 𝓤 H A mem run))
-      (l₀ l₁ l₂ l₃ l₄ l₅ l₆ l₇ l₈ l₉ : ℕ) (n : ℕ) (gn : n < 2 ^ 64) (e₁ : n ≡ fitOf (length ys)) (r : Asked) (e₂ : r ≡ askedOf input) (v : Noted) (gv : IsN v) (e₃ : v ≡ surveyOf r n 0 (take n ys)) where
+      (l₀ l₁ l₂ l₃ l₄ l₅ l₆ l₇ l₈ l₉ : ℕ) (n : ℕ) (gn : n < 2 ^ 64) (e₁ : n ≡ fitOf (length ys)) (r : Asked) (e₂ : r ≡ askedOf input) (v : Noted) (gv : IsN v) (e₃ : v ≡ surveyOf r n (take n ys)) where
     abbrev En₁ : Env 𝓤 H
     En₁ = (D′.mir, l₀) ∷ (shared, l₁) ∷ (I′.mir, l₂) ∷ (tyInt w64, l₃) ∷ (Q′.mir, l₄) ∷ (N′.mir, l₅) ∷ (tyInt w64, l₆) ∷ (cell, l₇) ∷ (P′.mir, l₈) ∷ (tyInt w64, l₉) ∷ []
 
@@ -227,7 +227,7 @@ module _ {M : Type 1} (𝓤 : URA M) (H : Heap 𝓤) (A : Atoms 𝓤) (W : Given
         move ! (2 ∷ 0 ∷ []) $ use2 W (raw (Survey 𝓤 H A mem run .pre (to-survey 𝓤 H A mem run κ q b o γ ys n r))) (goes-survey 𝓤 H A mem run W κ q b o γ ys n r gn gr (short (length ys) n e₁ .0)) $
         calls-at ! fm (Survey 𝓤 H A mem run) known-survey (to-survey 𝓤 H A mem run κ q b o γ ys n r) (and-then ! (load ! (from ! (stop !)) (look ! 18 refl)) (and-then ! (load ! (from ! (stop !)) (look ! 14 refl)) (and-then ! (load ! (from ! (stop !)) (look ! 12 refl)) (no-more !)))) (λ w₃.
         use1 W (later (some (λ (t : Noted). ((‵ (flft κ q) ⊛ ‵ ftrue) ⊛ ‵ (N.the-row .own t (w₃ ∷ []))) ⊛ raw (ensured 𝓤 H A survey.ended (survey.clauses 𝓤 H A mem run) (κ, tt) (x, (n, (r, tt))) tt t)))) (id⊢ 𝓤 _) $ await ! tt $ pick ! (λ v.
-        split ! $ move ! (1 ∷ []) $ use1 W (raw (fact 𝓤 (v ≡ surveyOf r n 0 (take n ys)))) (survey-of 𝓤 H A mem run κ x n r v) $ heard ! (v ≡ surveyOf r n 0 (take n ys)) (λ e₃.
+        split ! $ move ! (1 ∷ []) $ use1 W (raw (fact 𝓤 (v ≡ surveyOf r n (take n ys)))) (survey-of 𝓤 H A mem run κ x n r v) $ heard ! (v ≡ surveyOf r n (take n ys)) (λ e₃.
         split ! $ move ! (1 ∷ []) $ peeks ! N.the-row (Is N.the-row) (shows 𝓤 H A N.the-row) v (w₃ ∷ []) (λ gv.
         land ! (from ! (stop !)) (init ! 11 refl (LL.lawful N.the-type N′.the-laws 𝓤 H A W .typed v _ gv .0)) $ rewrite ! 11 (λ (u : Val). ‵ (fat fullShare N′.mir l₅ 0 u)) (ap only (N′.lowers .val-is v (w₃ ∷ []) gv)) refl $ drop ! $
         split ! $ move ! (2 ∷ 0 ∷ []) $ move ! (2 ∷ []) $ drop ! $

@@ -6,5 +6,5 @@ pub from-column-spec : {M : Type 1} → statement M
 from-column-spec =
     tie.close
     (tie.spec
-    (λ c κs. tt) (λ c κs. search needs) (λ c κs. search needs) (λ c κs. search needs)
-    (λ c. rw (c .identifier-in .ensures, c .before .before .apart-where .ensures, c .before .before .before .before .joined .ensures, c .before .before .before .before .before .before .clash-in .ensures)))
+    (λ c κs. search needs) (λ c κs. search needs) (λ c κs. search needs)
+    (λ c. rw (c .identifier-in .ensures, c .before .before .apart-where .ensures, c .before .before .before .before .joined .ensures)))

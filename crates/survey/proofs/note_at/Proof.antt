@@ -45,18 +45,19 @@ use Rattle.call.specs.Record.{freeCall, isOutgoing, isIncoming}
 use Rattle.call.proofs.Call.Laws as C′
 use Rattle.sound.specs.Cases.{incomingBy, waitingBy, outgoingBy}
 use Rattle.slice.proofs.Row.{R, cell, shared, typed-at}
+use Rattle.slice.proofs.Reading.{slice-at, Read, read-of, to-read, goes-read}
 use Rattle.slice.proofs.read as read
 use Rattle.slice.proofs.read.Symbol as read-def
 use Rattle.slice.proofs.read.Met as read-thm
 use Rattle.survey.specs.declared.Asked.{Asked}
-use Rattle.survey.specs.declared.Noted.{Noted}
-use Rattle.survey.specs.Survey.{notedOf, withSoundness, notedOpen, notedFree}
+use Rattle.survey.specs.declared.Passed.{Passed}
+use Rattle.survey.specs.Survey.{passedWith, withSoundness, passedOpen, passedFree}
 use Rattle.survey.proofs.Asked as Q
 use Rattle.survey.proofs.Asked.Laws as Q′
-use Rattle.survey.proofs.Noted as N
-use Rattle.survey.proofs.Noted.Laws as N′
-use Rattle.survey.proofs.Values.{IsV, IsQ, slice-at, vtyped, qtyped, is-lowered}
-use Rattle.survey.proofs.Arms.{Read, read-of, to-read, goes-read, Open, open-of, to-open, goes-open, open-is, Incoming, incoming-of, to-incoming, goes-incoming, incoming-is, Waiting, waiting-of, to-waiting, goes-waiting, waiting-is, Outgoing, outgoing-of, to-outgoing, goes-outgoing, outgoing-is, Free, free-of, to-free, goes-free, free-is}
+use Rattle.survey.proofs.Passed as N
+use Rattle.survey.proofs.Passed.Laws as N′
+use Rattle.survey.proofs.Values.{IsV, IsQ, vtyped, qtyped, is-lowered}
+use Rattle.survey.proofs.Arms.{Open, open-of, to-open, goes-open, open-is, Incoming, incoming-of, to-incoming, goes-incoming, incoming-is, Waiting, waiting-of, to-waiting, goes-waiting, waiting-is, Outgoing, outgoing-of, to-outgoing, goes-outgoing, outgoing-is, Free, free-of, to-free, goes-free, free-is}
 use Rattle.survey.proofs.note_open as note-open
 use Rattle.survey.proofs.note_open.Symbol as open-def
 use Rattle.survey.proofs.note_open.Met as open-thm
@@ -81,13 +82,13 @@ use Rattle.survey.proofs.note_at.Code.Mir as mir
 abbrev stayed : Stays (at′.ended .signature .params) (at′.ended .kept)
 stayed = (stay-none-slice (0 ∷ []) tt (plain (λ _. R)) yes, (stay-none (λ _. usize) yes, (stay-none (λ _. N.the-row) yes, (stay-none (λ _. Q.the-row) yes, tt))))
 
-module _ {M : Type 1} (𝓤 : URA M) (H : Heap 𝓤) (A : Atoms 𝓤) (W : Given 𝓤 H A) (mem : Memory → SProp 𝓤) (run : Routine → Fun 𝓤) (κ : Lft) (q : Share) (b o : ℕ) (γ : GName) (ys : List Call) (k : ℕ) (v : Noted) (asked : Asked)
+module _ {M : Type 1} (𝓤 : URA M) (H : Heap 𝓤) (A : Atoms 𝓤) (W : Given 𝓤 H A) (mem : Memory → SProp 𝓤) (run : Routine → Fun 𝓤) (κ : Lft) (q : Share) (b o : ℕ) (γ : GName) (ys : List Call) (k : ℕ) (v : Passed) (asked : Asked)
     (gk : k < 2 ^ 64) (gv : IsV v) (gq : IsQ asked) (room : Room R (length ys)) (in-table : k < length ys) where
   abbrev x : RefT (List Call)
   x = slice-at b o γ ys
 
   abbrev Arg : Type 0
-  Arg = RefT (List Call) × (ℕ × (Noted × (Asked × Unit {0})))
+  Arg = RefT (List Call) × (ℕ × (Passed × (Asked × Unit {0})))
 
   abbrev a : Arg
   a = (x, (k, (v, (asked, tt))))
@@ -110,7 +111,7 @@ module _ {M : Type 1} (𝓤 : URA M) (H : Heap 𝓤) (A : Atoms 𝓤) (W : Given
   abbrev item : Call
   item = getD ys k freeCall
 
-  exits : (t : Noted) → IsV t → t ≡ notedOf asked v item k → ent 𝓤 (⋆ 𝓤 H A (‵ Own ∷ ‵ (flft κ q) ∷ [])) (Post (N′.lowered t))
+  exits : (t : Passed) → IsV t → t ≡ passedWith asked v item k → ent 𝓤 (⋆ 𝓤 H A (‵ Own ∷ ‵ (flft κ q) ∷ [])) (Post (N′.lowered t))
   exits t g e =
       qed W (‵ Own ∷ ‵ (flft κ q) ∷ []) ∵
       suffices ! _ (ends-at 𝓤 H A at′.ended stayed (at′.clauses 𝓤 H A mem run) W bound (N′.lowered t) t (tt, (tt, (tt, (tt, tt)))) (tt, (tt, (tt, (tt, tt))))) $ says ! e $
@@ -128,7 +129,7 @@ module _ {M : Type 1} (𝓤 : URA M) (H : Heap 𝓤) (A : Atoms 𝓤) (W : Given
     Left = ‵ Own ∷ ‵ (flft κ q) ∷ ‵ (froom tyBool l₁₃ 0) ∷ ‵ (fdies tyBool l₁₃) ∷ ‵ (froom tyBool l₁₂ 0) ∷ ‵ (fdies tyBool l₁₂) ∷ ‵ (froom tyBool l₁₁ 0) ∷ ‵ (fdies tyBool l₁₁) ∷ ‵ (froom cell l₁₀ 0) ∷ ‵ (fdies cell l₁₀) ∷ ‵ (froom cell l₉ 0) ∷ ‵ (fdies cell l₉) ∷ ‵ (froom cell l₈ 0) ∷ ‵ (fdies cell l₈) ∷ ‵ (froom cell l₇ 0) ∷ ‵ (fdies cell l₇) ∷ ‵ (froom cell l₆ 0) ∷ ‵ (fdies cell l₆) ∷ ‵ (froom cell l₅ 0) ∷ ‵ (fdies cell l₅) ∷ ‵ (froom Q′.mir l₄ 0) ∷ ‵ (fdies Q′.mir l₄) ∷ ‵ (froom N′.mir l₃ 0) ∷ ‵ (fdies N′.mir l₃) ∷ ‵ (froom (tyInt w64) l₂ 0) ∷ ‵ (fdies (tyInt w64) l₂) ∷ ‵ (froom shared l₁ 0) ∷ ‵ (fdies shared l₁) ∷ ‵ (froom N′.mir l₀ 0) ∷ ‵ (fdies N′.mir l₀) ∷ []
 
     -- all of them are freed
-    leaves : (t : Noted) → IsV t → t ≡ notedOf asked v item k → Sq W Left (frees En (prop (Post (N′.lowered t))))
+    leaves : (t : Passed) → IsV t → t ≡ passedWith asked v item k → Sq W Left (frees En (prop (Post (N′.lowered t))))
     leaves t g e = move ! (28 ∷ 29 ∷ []) $ free1 ! $ move ! (26 ∷ 27 ∷ []) $ free1 ! $ move ! (24 ∷ 25 ∷ []) $ free1 ! $ move ! (22 ∷ 23 ∷ []) $ free1 ! $ move ! (20 ∷ 21 ∷ []) $ free1 ! $ move ! (18 ∷ 19 ∷ []) $ free1 ! $ move ! (16 ∷ 17 ∷ []) $ free1 ! $ move ! (14 ∷ 15 ∷ []) $ free1 ! $ move ! (12 ∷ 13 ∷ []) $ free1 ! $ move ! (10 ∷ 11 ∷ []) $ free1 ! $ move ! (8 ∷ 9 ∷ []) $ free1 ! $ move ! (6 ∷ 7 ∷ []) $ free1 ! $ move ! (4 ∷ 5 ∷ []) $ free1 ! $ move ! (2 ∷ 3 ∷ []) $ free1 ! $ free0 ! $ keep ! (0 ∷ 1 ∷ []) $ by ! (exits t g e)
 
     -- when the record was read for its tests, and after a test of its direction
@@ -155,8 +156,8 @@ module _ {M : Type 1} (𝓤 : URA M) (H : Heap 𝓤) (A : Atoms 𝓤) (W : Given
           land ! (from ! (stop !)) (init ! 9 refl (typed-at 𝓤 H A W c₁ w₁ g₁)) $ drop ! $ split ! $ move ! (1 ∷ []) $ drop ! $ move ! (1 ∷ []) $
           use0 W (raw (Free 𝓤 H A mem run .pre (to-free 𝓤 H A mem run v c₁ w₁ k))) (goes-free 𝓤 H A mem run W v c₁ w₁ k gv g₁ gk) $
           calls-at ! fm (Free 𝓤 H A mem run) known-free (to-free 𝓤 H A mem run v c₁ w₁ k) (and-then ! (load ! (from ! (stop !)) (look ! 23 refl)) (and-then ! (load ! (from ! (stop !)) (look ! 9 refl)) (and-then ! (load ! (from ! (stop !)) (look ! 25 refl)) (no-more !)))) (λ w.
-          use1 W (later (some (λ (t : Noted). (‵ ftrue ⊛ ‵ (N.the-row .own t (w ∷ []))) ⊛ raw (ensured 𝓤 H A note-free.ended (note-free.clauses 𝓤 H A mem run) tt (v, (c₁, (k, tt))) tt t)))) (id⊢ 𝓤 _) $ await ! tt $ pick ! (λ t.
-          split ! $ move ! (1 ∷ []) $ use1 W (raw (fact 𝓤 (t ≡ notedFree v c₁ k))) (free-of 𝓤 H A mem run v c₁ k t) $ heard ! (t ≡ notedFree v c₁ k) (λ e. split ! $ drop ! $ peeks ! N.the-row (Is N.the-row) (shows 𝓤 H A N.the-row) t (w ∷ []) (λ g.
+          use1 W (later (some (λ (t : Passed). (‵ ftrue ⊛ ‵ (N.the-row .own t (w ∷ []))) ⊛ raw (ensured 𝓤 H A note-free.ended (note-free.clauses 𝓤 H A mem run) tt (v, (c₁, (k, tt))) tt t)))) (id⊢ 𝓤 _) $ await ! tt $ pick ! (λ t.
+          split ! $ move ! (1 ∷ []) $ use1 W (raw (fact 𝓤 (t ≡ passedFree v c₁ k))) (free-of 𝓤 H A mem run v c₁ k t) $ heard ! (t ≡ passedFree v c₁ k) (λ e. split ! $ drop ! $ peeks ! N.the-row (Is N.the-row) (shows 𝓤 H A N.the-row) t (w ∷ []) (λ g.
           land ! (from ! (stop !)) (init ! 29 refl (vtyped 𝓤 H A W t w g)) $ rewrite ! 29 (λ (u : Val). ‵ (fat fullShare N′.mir l₀ 0 u)) (ap only (N′.lowers .val-is t (w ∷ []) g)) refl $ drop ! $
           returns ! (look ! 28 refl) $ forget ! 28 refl $ forget ! 26 refl $ forget ! 24 refl $ forget ! 22 refl $ forget ! 20 refl $ forget ! 18 refl $ forget ! 8 refl $ forget ! 6 refl $
           leaves l₀ l₁ l₂ l₃ l₄ l₅ l₆ l₇ l₈ l₉ l₁₀ l₁₁ l₁₂ l₁₃ t (is-lowered t t w refl g) (free-is asked v c₀ c₁ item e₀ e₁ k t other none e)))))))))
@@ -175,7 +176,7 @@ module _ {M : Type 1} (𝓤 : URA M) (H : Heap 𝓤) (A : Atoms 𝓤) (W : Given
           land ! (from ! (stop !)) (init ! 13 refl (typed-at 𝓤 H A W c₁ w₁ g₁)) $ drop ! $ split ! $ move ! (1 ∷ []) $ drop ! $ move ! (1 ∷ []) $
           use0 W (raw (Waiting 𝓤 H A mem run .pre (to-waiting 𝓤 H A mem run v c₁ w₁))) (goes-waiting 𝓤 H A mem run W v c₁ w₁ gv g₁) $
           calls-at ! fm (Waiting 𝓤 H A mem run) known-waiting (to-waiting 𝓤 H A mem run v c₁ w₁) (and-then ! (load ! (from ! (stop !)) (look ! 23 refl)) (and-then ! (load ! (from ! (stop !)) (look ! 13 refl)) (no-more !))) (λ w.
-          use1 W (later (some (λ (t : Noted). (‵ ftrue ⊛ ‵ (N.the-row .own t (w ∷ []))) ⊛ raw (ensured 𝓤 H A note-waiting.ended (note-waiting.clauses 𝓤 H A mem run) tt (v, (c₁, tt)) tt t)))) (id⊢ 𝓤 _) $ await ! tt $ pick ! (λ t.
+          use1 W (later (some (λ (t : Passed). (‵ ftrue ⊛ ‵ (N.the-row .own t (w ∷ []))) ⊛ raw (ensured 𝓤 H A note-waiting.ended (note-waiting.clauses 𝓤 H A mem run) tt (v, (c₁, tt)) tt t)))) (id⊢ 𝓤 _) $ await ! tt $ pick ! (λ t.
           split ! $ move ! (1 ∷ []) $ use1 W (raw (fact 𝓤 (t ≡ withSoundness v (waitingBy c₁)))) (waiting-of 𝓤 H A mem run v c₁ t) $ heard ! (t ≡ withSoundness v (waitingBy c₁)) (λ e. split ! $ drop ! $ peeks ! N.the-row (Is N.the-row) (shows 𝓤 H A N.the-row) t (w ∷ []) (λ g.
           land ! (from ! (stop !)) (init ! 29 refl (vtyped 𝓤 H A W t w g)) $ rewrite ! 29 (λ (u : Val). ‵ (fat fullShare N′.mir l₀ 0 u)) (ap only (N′.lowers .val-is t (w ∷ []) g)) refl $ drop ! $
           returns-within ! Post refl (look ! 28 refl) $ forget ! 28 refl $ forget ! 26 refl $ forget ! 24 refl $ forget ! 22 refl $ forget ! 20 refl $ forget ! 18 refl $ forget ! 12 refl $ forget ! 6 refl $ forget ! 2 refl $
@@ -189,7 +190,7 @@ module _ {M : Type 1} (𝓤 : URA M) (H : Heap 𝓤) (A : Atoms 𝓤) (W : Given
           land ! (from ! (stop !)) (init ! 11 refl (typed-at 𝓤 H A W c₁ w₁ g₁)) $ drop ! $ split ! $ move ! (1 ∷ []) $ drop ! $ move ! (1 ∷ []) $
           use0 W (raw (Outgoing 𝓤 H A mem run .pre (to-outgoing 𝓤 H A mem run v c₁ w₁))) (goes-outgoing 𝓤 H A mem run W v c₁ w₁ gv g₁) $
           calls-at ! fm (Outgoing 𝓤 H A mem run) known-outgoing (to-outgoing 𝓤 H A mem run v c₁ w₁) (and-then ! (load ! (from ! (stop !)) (look ! 23 refl)) (and-then ! (load ! (from ! (stop !)) (look ! 11 refl)) (no-more !))) (λ w.
-          use1 W (later (some (λ (t : Noted). (‵ ftrue ⊛ ‵ (N.the-row .own t (w ∷ []))) ⊛ raw (ensured 𝓤 H A note-outgoing.ended (note-outgoing.clauses 𝓤 H A mem run) tt (v, (c₁, tt)) tt t)))) (id⊢ 𝓤 _) $ await ! tt $ pick ! (λ t.
+          use1 W (later (some (λ (t : Passed). (‵ ftrue ⊛ ‵ (N.the-row .own t (w ∷ []))) ⊛ raw (ensured 𝓤 H A note-outgoing.ended (note-outgoing.clauses 𝓤 H A mem run) tt (v, (c₁, tt)) tt t)))) (id⊢ 𝓤 _) $ await ! tt $ pick ! (λ t.
           split ! $ move ! (1 ∷ []) $ use1 W (raw (fact 𝓤 (t ≡ withSoundness v (outgoingBy c₁)))) (outgoing-of 𝓤 H A mem run v c₁ t) $ heard ! (t ≡ withSoundness v (outgoingBy c₁)) (λ e. split ! $ drop ! $ peeks ! N.the-row (Is N.the-row) (shows 𝓤 H A N.the-row) t (w ∷ []) (λ g.
           land ! (from ! (stop !)) (init ! 29 refl (vtyped 𝓤 H A W t w g)) $ rewrite ! 29 (λ (u : Val). ‵ (fat fullShare N′.mir l₀ 0 u)) (ap only (N′.lowers .val-is t (w ∷ []) g)) refl $ drop ! $
           returns-within ! Post refl (look ! 28 refl) $ forget ! 28 refl $ forget ! 26 refl $ forget ! 24 refl $ forget ! 22 refl $ forget ! 20 refl $ forget ! 18 refl $ forget ! 10 refl $ forget ! 6 refl $ forget ! 2 refl $
@@ -210,8 +211,8 @@ module _ {M : Type 1} (𝓤 : URA M) (H : Heap 𝓤) (A : Atoms 𝓤) (W : Given
           land ! (from ! (stop !)) (init ! 17 refl (typed-at 𝓤 H A W c₁ w₁ g₁)) $ drop ! $ split ! $ move ! (1 ∷ []) $ drop ! $ move ! (1 ∷ []) $
           use0 W (raw (Open 𝓤 H A mem run .pre (to-open 𝓤 H A mem run v c₁ w₁ k asked))) (goes-open 𝓤 H A mem run W v c₁ w₁ k asked gv g₁ gk gq) $
           calls-at ! fm (Open 𝓤 H A mem run) known-open (to-open 𝓤 H A mem run v c₁ w₁ k asked) (and-then ! (load ! (from ! (stop !)) (look ! 23 refl)) (and-then ! (load ! (from ! (stop !)) (look ! 17 refl)) (and-then ! (load ! (from ! (stop !)) (look ! 25 refl)) (and-then ! (load ! (from ! (stop !)) (look ! 21 refl)) (no-more !))))) (λ w.
-          use1 W (later (some (λ (t : Noted). (‵ ftrue ⊛ ‵ (N.the-row .own t (w ∷ []))) ⊛ raw (ensured 𝓤 H A note-open.ended (note-open.clauses 𝓤 H A mem run) tt (v, (c₁, (k, (asked, tt)))) tt t)))) (id⊢ 𝓤 _) $ await ! tt $ pick ! (λ t.
-          split ! $ move ! (1 ∷ []) $ use1 W (raw (fact 𝓤 (t ≡ notedOpen asked v c₁ k))) (open-of 𝓤 H A mem run v c₁ k asked t) $ heard ! (t ≡ notedOpen asked v c₁ k) (λ e. split ! $ drop ! $ peeks ! N.the-row (Is N.the-row) (shows 𝓤 H A N.the-row) t (w ∷ []) (λ g.
+          use1 W (later (some (λ (t : Passed). (‵ ftrue ⊛ ‵ (N.the-row .own t (w ∷ []))) ⊛ raw (ensured 𝓤 H A note-open.ended (note-open.clauses 𝓤 H A mem run) tt (v, (c₁, (k, (asked, tt)))) tt t)))) (id⊢ 𝓤 _) $ await ! tt $ pick ! (λ t.
+          split ! $ move ! (1 ∷ []) $ use1 W (raw (fact 𝓤 (t ≡ passedOpen asked v c₁ k))) (open-of 𝓤 H A mem run v c₁ k asked t) $ heard ! (t ≡ passedOpen asked v c₁ k) (λ e. split ! $ drop ! $ peeks ! N.the-row (Is N.the-row) (shows 𝓤 H A N.the-row) t (w ∷ []) (λ g.
           land ! (from ! (stop !)) (init ! 29 refl (vtyped 𝓤 H A W t w g)) $ rewrite ! 29 (λ (u : Val). ‵ (fat fullShare N′.mir l₀ 0 u)) (ap only (N′.lowers .val-is t (w ∷ []) g)) refl $ drop ! $
           returns-within ! Post refl (look ! 28 refl) $ forget ! 28 refl $ forget ! 26 refl $ forget ! 24 refl $ forget ! 22 refl $ forget ! 20 refl $ forget ! 18 refl $ forget ! 16 refl $ forget ! 6 refl $ forget ! 4 refl $
           leaves l₀ l₁ l₂ l₃ l₄ l₅ l₆ l₇ l₈ l₉ l₁₀ l₁₁ l₁₂ l₁₃ t (is-lowered t t w refl g) (open-is asked v c₀ c₁ item e₀ e₁ k t incoming requested e))))))))))
@@ -224,7 +225,7 @@ module _ {M : Type 1} (𝓤 : URA M) (H : Heap 𝓤) (A : Atoms 𝓤) (W : Given
           land ! (from ! (stop !)) (init ! 15 refl (typed-at 𝓤 H A W c₁ w₁ g₁)) $ drop ! $ split ! $ move ! (1 ∷ []) $ drop ! $ move ! (1 ∷ []) $
           use0 W (raw (Incoming 𝓤 H A mem run .pre (to-incoming 𝓤 H A mem run v c₁ w₁))) (goes-incoming 𝓤 H A mem run W v c₁ w₁ gv g₁) $
           calls-at ! fm (Incoming 𝓤 H A mem run) known-incoming (to-incoming 𝓤 H A mem run v c₁ w₁) (and-then ! (load ! (from ! (stop !)) (look ! 23 refl)) (and-then ! (load ! (from ! (stop !)) (look ! 15 refl)) (no-more !))) (λ w.
-          use1 W (later (some (λ (t : Noted). (‵ ftrue ⊛ ‵ (N.the-row .own t (w ∷ []))) ⊛ raw (ensured 𝓤 H A note-incoming.ended (note-incoming.clauses 𝓤 H A mem run) tt (v, (c₁, tt)) tt t)))) (id⊢ 𝓤 _) $ await ! tt $ pick ! (λ t.
+          use1 W (later (some (λ (t : Passed). (‵ ftrue ⊛ ‵ (N.the-row .own t (w ∷ []))) ⊛ raw (ensured 𝓤 H A note-incoming.ended (note-incoming.clauses 𝓤 H A mem run) tt (v, (c₁, tt)) tt t)))) (id⊢ 𝓤 _) $ await ! tt $ pick ! (λ t.
           split ! $ move ! (1 ∷ []) $ use1 W (raw (fact 𝓤 (t ≡ withSoundness v (incomingBy c₁)))) (incoming-of 𝓤 H A mem run v c₁ t) $ heard ! (t ≡ withSoundness v (incomingBy c₁)) (λ e. split ! $ drop ! $ peeks ! N.the-row (Is N.the-row) (shows 𝓤 H A N.the-row) t (w ∷ []) (λ g.
           land ! (from ! (stop !)) (init ! 29 refl (vtyped 𝓤 H A W t w g)) $ rewrite ! 29 (λ (u : Val). ‵ (fat fullShare N′.mir l₀ 0 u)) (ap only (N′.lowers .val-is t (w ∷ []) g)) refl $ drop ! $
           returns-within ! Post refl (look ! 28 refl) $ forget ! 28 refl $ forget ! 26 refl $ forget ! 24 refl $ forget ! 22 refl $ forget ! 20 refl $ forget ! 18 refl $ forget ! 14 refl $ forget ! 6 refl $ forget ! 4 refl $

@@ -3,7 +3,7 @@ use Prim.Native.Nat.{ℕ, zero, suc, _+_, _/_, _%_, _^_, _<_}
 use mathlib.Core.Bool.{true, false, false≢true}
 use borrow.Author.Tests.{eq-eqb, eqb-true}
 use Rattle.ground.proofs.Bools.{by-cases}
-use Rattle.survey.specs.Survey.{has, withBit}
+use Rattle.marks.specs.Marks.{has, withBit}
 use mathlib.Core.Path.{_≡_, sym, ap, _∙_}
 use native.Mathlib.Nat.{le-of-suc-le-suc, not-suc-le-zero, two-pow-succ, pow-succ', div-div-eq-div-mul}
 use native.Mathlib.Omega.{arith}
@@ -13,7 +13,7 @@ half : (m k : ℕ) → m / 2 / 2 ^ k ≡ m / 2 ^ suc k
 half m k = div-div-eq-div-mul m 2 (2 ^ k) ∙ ap (λ (x : ℕ). m / x) (sym (pow-succ' 2 k))
 
 -- where a bit is 0 there is room for it
-pub bit-room : (k n m : ℕ) → k < n → m < 2 ^ n → (m / 2 ^ k % 2 ≡ 1 → ⊥) → m + 2 ^ k < 2 ^ n
+bit-room : (k n m : ℕ) → k < n → m < 2 ^ n → (m / 2 ^ k % 2 ≡ 1 → ⊥) → m + 2 ^ k < 2 ^ n
 bit-room k zero m h l e = absurd (not-suc-le-zero h)
 bit-room zero (suc n) m h l e = omega (arith, e, two-pow-succ n)
 bit-room (suc k) (suc n) m h l e =
