@@ -16,9 +16,12 @@ divertedBy c =
     when undiverted c then cdfNone c && (eqb (c .diverting) 0 && eqb (c .original) 0) else
     leb (c .counter) 15 && (eqb (c .cdf) CdfDone || (wait c && not (active c)))
 
--- what holds of each incoming call's record
+-- what holds of each incoming call's record beside its basic state, and with it
+abbrev pub ownBy : Call → Bool
+ownBy c = outgoingUnused c && ownThere c
+
 abbrev pub incomingBase : Call → Bool
-incomingBase c = outgoingUnused c && (leb Proceeding (c .basic) && leb (c .basic) Active) && ownThere c
+incomingBase c = ownBy c && (leb Proceeding (c .basic) && leb (c .basic) Active)
 
 -- the short case, neither diverted nor a request: what is left is 0
 abbrev pub incomingRest : Call → Bool
@@ -34,9 +37,9 @@ closedBy c =
 abbrev pub requestBy : ℕ → Call → Bool
 requestBy last c = when eqb (c .granted) unmarked && not (eqb (c .identifier) 0) && startHolds last c then fits (c .reason) c else false
 
--- an incoming call's record with an open request
+-- an incoming call's record with an open request: its basic state is in range where the reason fits it
 abbrev pub openBy : ℕ → Call → Bool
-openBy last c = when incomingBase c then (when divertedBy c then requestBy last c else false) else false
+openBy last c = when ownBy c then (when divertedBy c then requestBy last c else false) else false
 
 -- one without, the short case first
 abbrev pub incomingBy : Call → Bool

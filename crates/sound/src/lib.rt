@@ -5,8 +5,8 @@ ghost use mathlib.Core.Bool.{_&&_};
 ghost use Rattle.waits.specs.Soundness.{waitsHold};
 ghost use Rattle.call.specs.Record.{delivered};
 ghost use Rattle.call.specs.Soundness.{historyUnused, outgoingUnused, incomingUnused, outgoingCodes, historyHolds, divertHolds, soundCall};
-ghost use Rattle.sound.specs.Cases.{divertedBy, closedBy, requestBy, incomingBase, incomingRest, openBy, incomingBy, outgoingBase, toldBy, waitingBy, outgoingBy, freeBy};
-ghost use Rattle.sound.specs.Words.{legsWord, partyWord, codesWord, numbersWord};
+ghost use Rattle.sound.specs.Cases.{divertedBy, closedBy, requestBy, ownBy, incomingBase, incomingRest, openBy, incomingBy, outgoingBase, toldBy, waitingBy, outgoingBy, freeBy};
+ghost use Rattle.sound.specs.Words.{legsWord, partyWord, codesWord, numbersWord, pastWord};
 use call::Call;
 use notice::History;
 
@@ -54,6 +54,15 @@ fn numbers_word(c: Call) -> u64
         + 281474976710656 * (identifier as u64)
 }
 
+// Those of a diversion before.
+fn past_word(c: Call) -> u64
+    ensures { λ r. ⌜ r ≡ pastWord c ⌝ }
+{
+    let diverting = c.diverting;
+    let original = c.original;
+    (diverting as u64) + 65536 * (original as u64)
+}
+
 // All that only an outgoing call has is 0.
 fn outgoing_unused(c: Call) -> bool
     ensures { λ r. ⌜ r ≡ outgoingUnused c ⌝ }
@@ -88,7 +97,8 @@ fn diverted_holds(c: Call) -> bool
     let counter = c.counter;
     let cdf = c.cdf;
     if counter == 0 {
-        return (cdf == 0) & ((c.diverting == 0) & (c.original == 0));
+        let past = past_word(c);
+        return (cdf == 0) & (past == 0);
     }
     (counter <= 15) & ((cdf == 2) | ((cdf == 1) & !(c.basic == 3)))
 }
@@ -118,13 +128,21 @@ fn request_holds(c: Call, last: u64) -> bool
     false
 }
 
-// What holds of each incoming call's record.
+// What holds of each incoming call's record, beside its basic state: where a request is open, that is in range if the reason fits it;
+fn own_holds(c: Call) -> bool
+    ensures { λ r. ⌜ r ≡ ownBy c ⌝ }
+{
+    let unused = outgoing_unused(c);
+    unused & !(c.own == 0)
+}
+
+// and with its basic state.
 fn incoming_base(c: Call) -> bool
     ensures { λ r. ⌜ r ≡ incomingBase c ⌝ }
 {
-    let unused = outgoing_unused(c);
+    let own = own_holds(c);
     let basic = c.basic;
-    unused & ((1 <= basic) & (basic <= 3)) & !(c.own == 0)
+    own & ((1 <= basic) & (basic <= 3))
 }
 
 // The short case: neither diverted nor a request, so nothing else is there.
@@ -140,7 +158,7 @@ fn incoming_rest(c: Call) -> bool
 pub fn sound_open(c: Call, last: u64) -> bool
     ensures { λ r. ⌜ r ≡ openBy last c ⌝ }
 {
-    if incoming_base(c) {
+    if own_holds(c) {
         if diverted_holds(c) {
             return request_holds(c, last);
         }
