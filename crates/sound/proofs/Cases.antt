@@ -135,7 +135,7 @@ iff false true f g = absurd (g tt)
 iff false false f g = refl
 
 mix : (o b1 b3 lc lf lg ln lr own ch nh rh ih eh wh sh : Bool)
-    → (o && own && (b1 && b3) && (lf && ln && ch && nh && wh) && (lc && lg && lr && rh && ih && eh && sh))
+    → (o && (b1 && b3) && own && (lf && ln && ch && nh && wh) && (lc && lg && lr && rh && ih && eh && sh))
     ≡ (o && (b1 && b3 && lc && lf && lg && ln && lr) && own && ch && nh && rh && ih && eh && wh && sh)
 mix o b1 b3 lc lf lg ln lr own ch nh rh ih eh wh sh = iff _ _ (λ h. search (and-i, and-l, and-r) depth 24) (λ h. search (and-i, and-l, and-r) depth 24)
 
@@ -144,7 +144,7 @@ abbrev eitherBy : ℕ → Call → Bool
 eitherBy last c = when requested c then requestBy last c else closedBy c
 
 incoming-all : (last : ℕ) (c : Call)
-    → (outgoingUnused c && not (eqb (c .own) 0) && (leb 1 (c .basic) && leb (c .basic) 3) && divertedBy c && eitherBy last c) ≡ soundIncoming last c
+    → (outgoingUnused c && (leb 1 (c .basic) && leb (c .basic) 3) && not (eqb (c .own) 0) && divertedBy c && eitherBy last c) ≡ soundIncoming last c
 unfolding soundIncoming
 incoming-all last c =
     rw (diverted-same (c .counter) (c .cdf) (c .basic) (eqb (c .diverting) 0 && eqb (c .original) 0), request-same (c .cds) (c .granted) (c .reason) (c .basic) (c .start) last (eqb (c .identifier) 0))
@@ -188,15 +188,15 @@ fits-in-range reason (suc (suc zero)) = refl
 fits-in-range reason (suc (suc (suc n))) =
     rw (over-1 (suc n), over-2 n, and-false (eqb reason 1 || eqb reason 2), and-false (eqb reason 3)) (and-false (leb 1 (suc (suc (suc n))) && leb (suc (suc (suc n))) 3))
 
-ranged : (a r d g f : Bool) → (r && f) ≡ f → (a && d && (when g then f else false)) ≡ (a && r && d && (when g then f else false))
-ranged a true d g f h = rw (and-true a)
-ranged a false d true f h = rw (← h, and-false (a && d), and-false a)
-ranged a false d false f h = rw (and-false (a && d), and-false a)
+ranged : (a r o d g f : Bool) → (r && f) ≡ f → (a && o && d && (when g then f else false)) ≡ (a && r && o && d && (when g then f else false))
+ranged a true o d g f h = rw (and-true a)
+ranged a false o d true f h = rw (← h, and-false (a && o && d), and-false a)
+ranged a false o d false f h = rw (and-false (a && o && d), and-false a)
 
 open-same : (last : ℕ) (c : Call) → requested c ≡ true → openBy last c ≡ soundIncoming last c
 open-same last c t =
     two-tests (ownBy c) (divertedBy c) (requestBy last c)
-    ∙ ranged (ownBy c) (leb 1 (c .basic) && leb (c .basic) 3) (divertedBy c) (eqb (c .granted) 0 && not (eqb (c .identifier) 0) && startHolds last c) (fitsIn (c .reason) (c .basic)) (fits-in-range (c .reason) (c .basic))
+    ∙ ranged (outgoingUnused c) (leb 1 (c .basic) && leb (c .basic) 3) (ownThere c) (divertedBy c) (eqb (c .granted) 0 && not (eqb (c .identifier) 0) && startHolds last c) (fitsIn (c .reason) (c .basic)) (fits-in-range (c .reason) (c .basic))
     ∙ (rw t at (incoming-all last c))
 
 -- and without

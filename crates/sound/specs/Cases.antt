@@ -21,7 +21,7 @@ abbrev pub ownBy : Call → Bool
 ownBy c = outgoingUnused c && ownThere c
 
 abbrev pub incomingBase : Call → Bool
-incomingBase c = ownBy c && (leb Proceeding (c .basic) && leb (c .basic) Active)
+incomingBase c = outgoingUnused c && (leb Proceeding (c .basic) && leb (c .basic) Active) && ownThere c
 
 -- the short case, neither diverted nor a request: what is left is 0
 abbrev pub incomingRest : Call → Bool

@@ -140,9 +140,9 @@ fn own_holds(c: Call) -> bool
 fn incoming_base(c: Call) -> bool
     ensures { λ r. ⌜ r ≡ incomingBase c ⌝ }
 {
-    let own = own_holds(c);
+    let unused = outgoing_unused(c);
     let basic = c.basic;
-    own & ((1 <= basic) & (basic <= 3))
+    unused & ((1 <= basic) & (basic <= 3)) & !(c.own == 0)
 }
 
 // The short case: neither diverted nor a request, so nothing else is there.
