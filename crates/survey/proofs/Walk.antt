@@ -1,8 +1,8 @@
 -- How the walk goes on by one record, from the end. Assumes nothing.
 use Prim.Native.Nat.{ℕ, zero, suc, _+_, _-_, _/_, _%_, _^_, _≤_, _<_}
-use mathlib.Core.Bool.{Bool, true, false, _||_}
+use mathlib.Core.Bool.{Bool, true, false, _||_, not}
 use mathlib.Core.List.{List, [], _∷_}
-use mathlib.Core.Path.{_≡_, refl, sym, _∙_}
+use mathlib.Core.Path.{_≡_, refl, sym, ap, _∙_}
 use native.Mathlib.Nat.{add-zero, le-of-suc-le-suc, not-suc-le-zero}
 use native.Mathlib.Omega.{arith}
 use borrow.Author.Tests.{ne-eqb, eqb-true, eqb-false}
@@ -45,9 +45,12 @@ unfolding counted
 counted-few [] = omega arith
 counted-few (c ∷ rest) = by-cases (waits (requestIn c)) (λ w. rw w (omega (arith, counted-few rest))) (λ w. rw w (omega (arith, counted-few rest)))
 
+any-pos : (n : ℕ) → 1 ≤ n → any n ≡ true
+any-pos n h = ap not (ne-eqb n 0 (λ e. absurd (omega (arith, h, e))))
+
 any-more : (a x : ℕ) → any (a + x % 2) ≡ any a || eqb (x % 2) 1
 any-more zero x = by-cases (eqb (x % 2) 1) (λ t. rw (eqb-true (x % 2) 1 t)) (λ f. let z : x % 2 ≡ 0 = omega (arith, eqb-false (x % 2) 1 f) in rw z)
-any-more (suc a) x = rw (ne-eqb (suc a + x % 2) 0 (λ e. absurd (omega (arith, e))), ne-eqb (suc a) 0 (λ e. absurd (omega (arith, e))))
+any-more (suc a) x = rw (any-pos (suc a + x % 2) (omega arith), any-pos (suc a) (omega arith))
 
 -- any was exactly where the marks tell that two are the same
 clash-more : (c : Call) (rest : List Call) → waits (requestIn c) ≡ true → any (counted rest) ≡ markedOf rest .0 → any (counted (c ∷ rest)) ≡ withRequest (markedOf rest) (requestIn c) .0
