@@ -1,5 +1,5 @@
 //! The library's entries over the plain engine's structs, which lie in
-//! memory as those of `whipsail.h`.
+//! memory as those of `whipsail.h`, and the plain engine behind the first of them.
 
 use plain::answer::Answer;
 use plain::call::Call;
@@ -77,8 +77,8 @@ unsafe extern "C" fn plain_lent_step(table: *mut Call, len: usize, mut input: In
     }
 }
 
-/// One event by it. The compiler must not see which function that is, as it does not
-/// see the library's.
+/// One event of the plain engine by that. It is called by its address, as the library's
+/// entry is, so that the compiler does not look into it.
 pub fn plain_step(table: &mut [Call], station: &mut Station, event: &Event) -> Answer {
     let entry: LentStep = black_box(plain_lent_step);
     handed(entry, table, station, event)

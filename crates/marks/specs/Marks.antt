@@ -21,6 +21,7 @@ countIn word identifier = word / 2 ^ (identifier % 64) % 2
 abbrev pub putIn : ℕ → ℕ → ℕ
 putIn word identifier = bitOr word (2 ^ (identifier % 64))
 
+-- whether it is set there
 abbrev pub setIn : ℕ → ℕ → Bool
 setIn word identifier = eqb (countIn word identifier) 1
 

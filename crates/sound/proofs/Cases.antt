@@ -12,7 +12,7 @@ use Rattle.call.specs.declared.Call.{Call}
 use Rattle.call.specs.Record.{isFree, isOutgoing, isIncoming, invoked, requested}
 use Rattle.call.specs.Soundness.{exactly, only, outgoingUnused, incomingUnused, ownThere, cdfHolds, numbersHold, requestHolds, identifierThere, excludes, waitHolds, startHolds, soundIncoming, waitingHolds, historyHolds, divertHolds, soundOutgoing, soundCall}
 use Rattle.sound.specs.Words.{codesWord}
-use Rattle.sound.specs.Cases.{divertedBy, closedBy, requestBy, ownBy, incomingBase, incomingRest, openBy, incomingBy, outgoingBase, toldBy, waitingBy, outgoingBy, freeBy}
+use Rattle.sound.specs.Cases.{divertedBy, closedBy, requestBy, openBase, incomingBase, incomingRest, openBy, incomingBy, outgoingBase, toldBy, waitingBy, outgoingBy, freeBy}
 
 and-true : (a : Bool) → a && true ≡ a
 and-true true = refl
@@ -195,7 +195,7 @@ ranged a false o d false f h = rw (and-false (a && o && d), and-false a)
 
 open-same : (last : ℕ) (c : Call) → requested c ≡ true → openBy last c ≡ soundIncoming last c
 open-same last c t =
-    two-tests (ownBy c) (divertedBy c) (requestBy last c)
+    two-tests (openBase c) (divertedBy c) (requestBy last c)
     ∙ ranged (outgoingUnused c) (leb 1 (c .basic) && leb (c .basic) 3) (ownThere c) (divertedBy c) (eqb (c .granted) 0 && not (eqb (c .identifier) 0) && startHolds last c) (fitsIn (c .reason) (c .basic)) (fits-in-range (c .reason) (c .basic))
     ∙ (rw t at (incoming-all last c))
 

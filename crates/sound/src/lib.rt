@@ -5,7 +5,7 @@ ghost use mathlib.Core.Bool.{_&&_};
 ghost use Rattle.waits.specs.Soundness.{waitsHold};
 ghost use Rattle.call.specs.Record.{delivered};
 ghost use Rattle.call.specs.Soundness.{historyUnused, outgoingUnused, incomingUnused, outgoingCodes, historyHolds, divertHolds, soundCall};
-ghost use Rattle.sound.specs.Cases.{divertedBy, closedBy, requestBy, ownBy, incomingBase, incomingRest, openBy, incomingBy, outgoingBase, toldBy, waitingBy, outgoingBy, freeBy};
+ghost use Rattle.sound.specs.Cases.{divertedBy, closedBy, requestBy, openBase, incomingBase, incomingRest, openBy, incomingBy, outgoingBase, toldBy, waitingBy, outgoingBy, freeBy};
 ghost use Rattle.sound.specs.Words.{legsWord, partyWord, codesWord, numbersWord, pastWord};
 use call::Call;
 use notice::History;
@@ -128,15 +128,15 @@ fn request_holds(c: Call, last: u64) -> bool
     false
 }
 
-// What holds of each incoming call's record, beside its basic state: where a request is open, that is in range if the reason fits it;
-fn own_holds(c: Call) -> bool
-    ensures { λ r. ⌜ r ≡ ownBy c ⌝ }
+// What holds of each incoming call's record beside its basic state. With an open request no more is asked of the state than that the reason fits it: such a one is in range.
+fn open_base(c: Call) -> bool
+    ensures { λ r. ⌜ r ≡ openBase c ⌝ }
 {
     let unused = outgoing_unused(c);
     unused & !(c.own == 0)
 }
 
-// and with its basic state.
+// What holds of each incoming call's record.
 fn incoming_base(c: Call) -> bool
     ensures { λ r. ⌜ r ≡ incomingBase c ⌝ }
 {
@@ -158,7 +158,7 @@ fn incoming_rest(c: Call) -> bool
 pub fn sound_open(c: Call, last: u64) -> bool
     ensures { λ r. ⌜ r ≡ openBy last c ⌝ }
 {
-    if own_holds(c) {
+    if open_base(c) {
         if diverted_holds(c) {
             return request_holds(c, last);
         }

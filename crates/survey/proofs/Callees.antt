@@ -38,7 +38,7 @@ use Rattle.marks.proofs.put_in as put-in
 use Rattle.survey.specs.declared.Asked.{Asked}
 use Rattle.survey.specs.declared.Passed.{Passed}
 use Rattle.survey.specs.declared.Noted.{Noted}
-use Rattle.survey.specs.Survey.{unseenOf, passedWith, any, summedOf}
+use Rattle.survey.specs.Survey.{unseenOf, passedWith, anyTwice, summedOf}
 use Rattle.survey.proofs.Asked as Q
 use Rattle.survey.proofs.Asked.Laws as Q′
 use Rattle.survey.proofs.Passed as N
@@ -97,8 +97,8 @@ module _ {M : Type 1} (𝓤 : URA M) (H : Heap 𝓤) (A : Atoms 𝓤) (mem : Mem
   abbrev pub Summed : Contract 𝓤
   Summed = tripleOf 𝓤 H A summed.signature (summed.spec 𝓤 H A mem run)
 
-  pub summed-is : (v : Passed) (twice : ℕ) (marks : List ℕ) (q : Asked) (t : Noted) → ent 𝓤 (ensured 𝓤 H A summed.ended (summed.clauses 𝓤 H A mem run) tt (v, (twice, (marks, (q, tt)))) tt t) (fact 𝓤 (t ≡ summedOf v (any twice, marks) q))
-  summed-is v twice marks q t = exE 𝓤 _ (λ ws. snd∗ 𝓤 (sem 𝓤 H A (lasts summed.ended tt (v, (twice, (marks, (q, tt)))) ws)) (fact 𝓤 (t ≡ summedOf v (any twice, marks) q)))
+  pub summed-is : (v : Passed) (twice : ℕ) (marks : List ℕ) (q : Asked) (t : Noted) → ent 𝓤 (ensured 𝓤 H A summed.ended (summed.clauses 𝓤 H A mem run) tt (v, (twice, (marks, (q, tt)))) tt t) (fact 𝓤 (t ≡ summedOf v (anyTwice twice, marks) q))
+  summed-is v twice marks q t = exE 𝓤 _ (λ ws. snd∗ 𝓤 (sem 𝓤 H A (lasts summed.ended tt (v, (twice, (marks, (q, tt)))) ws)) (fact 𝓤 (t ≡ summedOf v (anyTwice twice, marks) q)))
 
   abbrev pub to-summed : Passed → ℕ → List ℕ → Asked → Summed .Ghost
   to-summed v twice marks q = ((tt, tt, tt, (v, (twice, (marks, (q, tt)))), (N′.lowered v ∷ [], (vint w64 twice ∷ [], (avals w64 8 marks, (Q′.lowered q ∷ [], tt))))), tt)

@@ -17,7 +17,7 @@ use Rattle.survey.specs.declared.Asked.{Asked}
 use Rattle.survey.specs.declared.Passed.{Passed}
 use Rattle.marks.specs.Marks.{wordOf, countIn, isMarked, withMark, noMarks, withRequest}
 use Rattle.marks.proofs.Laws.{adds-nothing}
-use Rattle.survey.specs.Survey.{unseenOf, requestIn, passedWith, passedOf, markedOf, any}
+use Rattle.survey.specs.Survey.{unseenOf, requestIn, passedWith, passedOf, markedOf, anyTwice}
 
 drop-at : (k n : ℕ) (l : List Call) → k < n → n ≤ length l → drop k (take n l) ≡ getD l k freeCall ∷ drop (suc k) (take n l)
 drop-at k zero l h m = absurd (not-suc-le-zero h)
@@ -45,19 +45,19 @@ unfolding counted
 counted-few [] = omega arith
 counted-few (c ∷ rest) = by-cases (waits (requestIn c)) (λ w. rw w (omega (arith, counted-few rest))) (λ w. rw w (omega (arith, counted-few rest)))
 
-any-pos : (n : ℕ) → 1 ≤ n → any n ≡ true
+any-pos : (n : ℕ) → 1 ≤ n → anyTwice n ≡ true
 any-pos n h = ap not (ne-eqb n 0 (λ e. absurd (omega (arith, h, e))))
 
-any-more : (a x : ℕ) → any (a + x % 2) ≡ any a || eqb (x % 2) 1
+any-more : (a x : ℕ) → anyTwice (a + x % 2) ≡ anyTwice a || eqb (x % 2) 1
 any-more zero x = by-cases (eqb (x % 2) 1) (λ t. rw (eqb-true (x % 2) 1 t)) (λ f. let z : x % 2 ≡ 0 = omega (arith, eqb-false (x % 2) 1 f) in rw z)
 any-more (suc a) x = rw (any-pos (suc a + x % 2) (omega arith), any-pos (suc a) (omega arith))
 
--- any was exactly where the marks tell that two are the same
-clash-more : (c : Call) (rest : List Call) → waits (requestIn c) ≡ true → any (counted rest) ≡ markedOf rest .0 → any (counted (c ∷ rest)) ≡ withRequest (markedOf rest) (requestIn c) .0
+-- it was once or more exactly where the marks tell that two are the same
+clash-more : (c : Call) (rest : List Call) → waits (requestIn c) ≡ true → anyTwice (counted rest) ≡ markedOf rest .0 → anyTwice (counted (c ∷ rest)) ≡ withRequest (markedOf rest) (requestIn c) .0
 unfolding counted withRequest
 clash-more c rest w e = rw (w, any-more (counted rest) (getD (markedOf rest .1) (wordOf (requestIn c .identifier)) 0 / 2 ^ (requestIn c .identifier % 64)), e)
 
-counted-any : (l : List Call) → any (counted l) ≡ markedOf l .0
+counted-any : (l : List Call) → anyTwice (counted l) ≡ markedOf l .0
 unfolding counted markedOf
 counted-any [] = refl
 counted-any (c ∷ rest) =
@@ -74,7 +74,7 @@ module _ (q : Asked) (n : ℕ) (l : List Call) where
   abbrev pub twice-by : ℕ → ℕ
   twice-by i = counted (drop i (take n l))
 
-  pub twice-any : (i : ℕ) → any (twice-by i) ≡ set-by i .0
+  pub twice-any : (i : ℕ) → anyTwice (twice-by i) ≡ set-by i .0
   twice-any i = counted-any (drop i (take n l))
 
   pub twice-none : 0 ≡ twice-by n

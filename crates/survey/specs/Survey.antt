@@ -69,9 +69,9 @@ unfoldable pub markedOf : List Call → Bool × List ℕ
 markedOf [] = noMarks
 markedOf (c ∷ rest) = withRequest (markedOf rest) (requestIn c)
 
--- a walk counts the marks that are set twice; what it tells is whether any was
-abbrev pub any : ℕ → Bool
-any twice = not (eqb twice 0)
+-- a walk counts how often a mark is set that was set before; what it tells is whether any was
+abbrev pub anyTwice : ℕ → Bool
+anyTwice twice = not (eqb twice 0)
 
 -- what the walk tells, of what it noted and what was marked: the station's own requests set their marks too
 abbrev pub summedOf : Passed → Bool × List ℕ → Asked → Noted

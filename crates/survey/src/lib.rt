@@ -5,7 +5,7 @@ ghost use Prim.Native.Nat.{_≤_, _<_};
 ghost use lib.ListN.{length, take, getD};
 ghost use Rattle.call.specs.Record.{freeCall, requestOf};
 ghost use Rattle.sound.specs.Cases.{incomingBy, waitingBy, outgoingBy};
-ghost use Rattle.survey.specs.Survey.{freeWith, dueWith, unseenOf, passedWith, withSoundness, passedOpen, passedFree, any, summedOf, surveyOf};
+ghost use Rattle.survey.specs.Survey.{freeWith, dueWith, unseenOf, passedWith, withSoundness, passedOpen, passedFree, anyTwice, summedOf, surveyOf};
 use call::Call;
 use remote::Pendings;
 use timed::Pending;
@@ -177,9 +177,9 @@ fn note_at(table: &[Call], k: usize, v: Passed, q: Asked) -> Passed
     note_free(v, c, k)
 }
 
-// What the walk tells, of what it noted, how often a mark was set twice, and the marks.
+// What the walk tells, of what it noted, how often a mark was set that was set before, and the marks.
 fn summed(v: Passed, twice: u64, marks: [u64; 8], q: Asked) -> Noted
-    ensures { λ r. ⌜ r ≡ summedOf v (any twice, marks) q ⌝ }
+    ensures { λ r. ⌜ r ≡ summedOf v (anyTwice twice, marks) q ⌝ }
 {
     let clash = !(twice == 0);
     let m = marks::told(clash, marks, q.pending, q.next);

@@ -57,7 +57,7 @@ use Rattle.marks.proofs.put_in.Symbol as put-def
 use Rattle.survey.specs.declared.Asked.{Asked}
 use Rattle.survey.specs.declared.Passed.{Passed}
 use Rattle.survey.specs.declared.Noted.{Noted}
-use Rattle.survey.specs.Survey.{passedWith, any, summedOf, surveyOf}
+use Rattle.survey.specs.Survey.{passedWith, anyTwice, summedOf, surveyOf}
 use Rattle.survey.proofs.Walk.{seen, set-by, twice-by, twice-any, twice-few, set-full, seen-next, set-open, set-else, twice-open, twice-else}
 use Rattle.survey.proofs.Values.{IsV, IsQ, vtyped, is-lowered}
 use Rattle.survey.proofs.Callees.{NoteAt, WordOf, CountIn, PutIn, Summed, note-at-is, word-is, count-in-is, put-in-is, summed-is, to-note-at, to-word, to-count-in, to-put-in, to-summed, goes-note-at, goes-word, goes-count-in, goes-put-in, goes-summed}
@@ -286,8 +286,8 @@ module _ {M : Type 1} (𝓤 : URA M) (H : Heap 𝓤) (A : Atoms 𝓤) (W : Given
         use0 W (raw (Summed 𝓤 H A mem run .pre (to-summed 𝓤 H A mem run (S (i .0)) (T₀ (i .0)) (M₀ (i .0) .1) asked))) (goes-summed 𝓤 H A mem run W (S (i .0)) (T₀ (i .0)) (M₀ (i .0) .1) asked (i .1 .1) (twice-fits (i .0)) gm gq) $
         calls-at ! fm (Summed 𝓤 H A mem run) known-summed (to-summed 𝓤 H A mem run (S (i .0)) (T₀ (i .0)) (M₀ (i .0) .1) asked) (and-then ! (load ! (from ! (stop !)) (look ! 8 refl)) (and-then ! (load ! (from ! (stop !)) (look ! 9 refl)) (and-then ! (load ! (from ! (stop !)) (look ! 23 refl)) (and-then ! (load ! (from ! (stop !)) (look ! 7 refl)) (no-more !))))) (λ w.
         use1 W (later (some (λ (t : Noted). (‵ ftrue ⊛ ‵ (T.the-row .own t (w ∷ []))) ⊛ raw (ensured 𝓤 H A summed.ended (summed.clauses 𝓤 H A mem run) tt (S (i .0), (T₀ (i .0), (M₀ (i .0) .1, (asked, tt)))) tt t)))) (id⊢ 𝓤 _) $ await ! tt $ pick ! (λ t.
-        split ! $ move ! (1 ∷ []) $ use1 W (raw (fact 𝓤 (t ≡ summedOf (S (i .0)) (any (T₀ (i .0)), M₀ (i .0) .1) asked))) (summed-is 𝓤 H A mem run (S (i .0)) (T₀ (i .0)) (M₀ (i .0) .1) asked t) $
-        heard ! (t ≡ summedOf (S (i .0)) (any (T₀ (i .0)), M₀ (i .0) .1) asked) (λ e₂. split ! $ drop ! $ peeks ! T.the-row (Is T.the-row) (shows 𝓤 H A T.the-row) t (w ∷ []) (λ gt.
+        split ! $ move ! (1 ∷ []) $ use1 W (raw (fact 𝓤 (t ≡ summedOf (S (i .0)) (anyTwice (T₀ (i .0)), M₀ (i .0) .1) asked))) (summed-is 𝓤 H A mem run (S (i .0)) (T₀ (i .0)) (M₀ (i .0) .1) asked t) $
+        heard ! (t ≡ summedOf (S (i .0)) (anyTwice (T₀ (i .0)), M₀ (i .0) .1) asked) (λ e₂. split ! $ drop ! $ peeks ! T.the-row (Is T.the-row) (shows 𝓤 H A T.the-row) t (w ∷ []) (λ gt.
         land ! (from ! (stop !)) (init ! 4 refl (LL.lawful T.the-type T′.the-laws 𝓤 H A W .typed t _ gt .0)) $ rewrite ! 4 (λ (u : Val). ‵ (fat fullShare T′.mir l₀ 0 u)) (ap only (T′.lowers .val-is t (w ∷ []) gt)) refl $ drop ! $
         returns ! (look ! 3 refl) $ forget ! 0 refl $ forget ! 3 refl $ forget ! 4 refl $ forget ! 5 refl $ forget ! 6 refl $ forget ! 7 refl $ forget ! 8 refl $ forget ! 9 refl $ forget ! 15 refl $ forget ! 22 refl $
         move ! (3 ∷ 23 ∷ []) $ free1 ! $ move ! (3 ∷ 22 ∷ []) $ free1 ! $ move ! (3 ∷ 21 ∷ []) $ free1 ! $ move ! (3 ∷ 20 ∷ []) $ free1 ! $ move ! (3 ∷ 19 ∷ []) $ free1 ! $ move ! (0 ∷ 18 ∷ []) $ free1 ! $ move ! (2 ∷ 17 ∷ []) $ free1 ! $ move ! (2 ∷ 16 ∷ []) $ free1 ! $ move ! (2 ∷ 15 ∷ []) $ free1 ! $ move ! (2 ∷ 14 ∷ []) $ free1 ! $ move ! (2 ∷ 13 ∷ []) $ free1 ! $ move ! (2 ∷ 12 ∷ []) $ free1 ! $ move ! (2 ∷ 11 ∷ []) $ free1 ! $ move ! (2 ∷ 10 ∷ []) $ free1 ! $ move ! (2 ∷ 9 ∷ []) $ free1 ! $ move ! (2 ∷ 8 ∷ []) $ free1 ! $ move ! (2 ∷ 7 ∷ []) $ free1 ! $ move ! (2 ∷ 6 ∷ []) $ free1 ! $ move ! (2 ∷ 5 ∷ []) $ free1 ! $ move ! (2 ∷ 4 ∷ []) $ free1 ! $ move ! (2 ∷ 3 ∷ []) $ free1 ! $ free0 ! $
