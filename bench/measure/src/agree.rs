@@ -66,11 +66,14 @@ fn by_run(run: Run, case: &Case) -> (bool, plain::station::Station, Vec<Call>) {
 fn same(case: &Case) {
     let (answer, station, table) = by_model(case);
     let stepped = (answer, station, table.clone());
-    assert!(
-        by_step(plain::lent::step, case) == stepped,
-        "plain: {case:?}"
-    );
-    assert!(by_step(library::step, case) == stepped, "library: {case:?}");
+    let engines: [(&str, Step); 3] = [
+        ("plain", plain::lent::step),
+        ("plain by value", library::plain_step),
+        ("library", library::step),
+    ];
+    for (engine, step) in engines {
+        assert!(by_step(step, case) == stepped, "{engine}: {case:?}");
+    }
     let ran = (answer.code == 0, station, table);
     assert!(
         by_run(plain::lent::run, case) == ran,

@@ -29,11 +29,16 @@ enum Entry {
     Run(Run),
 }
 
-/// The two entries by name, the library's first.
-const ENTRIES: [(&str, [Entry; 2]); 2] = [
+/// The entries by name, the library's first; `handed` has the plain engine behind
+/// the library's interface.
+const ENTRIES: [(&str, [Entry; 2]); 3] = [
     (
         "step",
         [Entry::Step(library::step), Entry::Step(plain::lent::step)],
+    ),
+    (
+        "handed",
+        [Entry::Step(library::step), Entry::Step(library::plain_step)],
     ),
     (
         "run",
@@ -113,7 +118,7 @@ fn main() {
             print_times(rounds.unwrap_or(100));
         }
         _ => {
-            eprintln!("usage: measure time [ROUNDS] | count step|run library|plain 0..3");
+            eprintln!("usage: measure time [ROUNDS] | count step|handed|run library|plain 0..3");
             std::process::exit(1);
         }
     }

@@ -12,7 +12,6 @@ use Rattle.ground.specs.Choice.{when_then_else_}
 use Rattle.ground.specs.Lists.{all}
 use Rattle.ground.proofs.Bools.{by-cases}
 use Rattle.ground.proofs.Walks.{both}
-use Rattle.event.specs.declared.Event.{Event}
 use Rattle.identifier.specs.Identifier.{distinct}
 use Rattle.call.specs.declared.Call.{Call}
 use Rattle.call.specs.declared.Effect.{Effect}
@@ -95,8 +94,11 @@ pub tested-short : (b : Board) → soundBoard b ≡ true → b .len ≤ 64
 tested-short b h = ltb-false 64 (b .len) (not-true (ltb 64 (b .len)) (both (not (ltb 64 (b .len))) (sound (b .station) (tableOf b)) h .0))
 
 -- what is read is a record of the array, and that of the table where the table has the place
-pub within-small : (place len : ℕ) → len ≤ 64 → within place len < 64
+within-small : (place len : ℕ) → len ≤ 64 → within place len < 64
 within-small place len h = by-cases (ltb place len) (λ t. rw t (let l = ltb-true place len t in omega arith)) (λ f. rw f (omega arith))
 
 pub within-near : (place len : ℕ) → place < len → within place len ≡ place
 within-near place len l = rw (lt-ltb place len l)
+
+pub in-array : (b : Board) (place i : ℕ) → soundBoard b ≡ true → i ≡ within place (b .len) → i < 64
+in-array b place i ok e = rw e (within-small place (b .len) (tested-short b ok))

@@ -4,7 +4,7 @@ use mathlib.Core.Bool.{Bool, true, false, _||_, false≢true}
 use mathlib.Core.List.{List, [], _∷_}
 use mathlib.Core.Path.{_≡_, refl, sym, ap, _∙_}
 use native.Mathlib.Omega.{arith}
-use borrow.Author.Tests.{eqb-true, eqb-false}
+use borrow.Author.Tests.{eq-eqb, eqb-true, eqb-false}
 use lib.Dec.{eqb}
 use lib.ListN.{length, getD}
 use lib.Seq.{getD-set-same, getD-set-other}
@@ -17,7 +17,7 @@ use Rattle.remote.specs.declared.Pendings.{Pendings}
 use Rattle.holding.specs.Idle.{fourIdle}
 use Rattle.holding.proofs.Idle.{none-waits}
 use Rattle.marks.specs.Marks.{wordOf, putIn, isMarked, withMark, withRequest, withFour}
-use Rattle.marks.proofs.Bits.{has-with, has-stays}
+use Rattle.marks.proofs.Bits.{bit-set, bit-stays}
 
 -- ---- one mark more
 module _ (marks : List ℕ) (full : length marks ≡ 8) where
@@ -25,13 +25,13 @@ module _ (marks : List ℕ) (full : length marks ≡ 8) where
   there x = omega (arith, full)
 
   pub marked-with : (x : ℕ) → isMarked (withMark marks x) x ≡ true
-  marked-with x = rw (getD-set-same marks (wordOf x) (putIn (getD marks (wordOf x) 0) x) 0 (there x)) (has-with (getD marks (wordOf x) 0) (x % 64))
+  marked-with x = rw (getD-set-same marks (wordOf x) (putIn (getD marks (wordOf x) 0) x) 0 (there x)) (eq-eqb _ _ (bit-set (getD marks (wordOf x) 0) (x % 64)))
 
   -- a mark that is set stays so
   pub marked-stays : (x y : ℕ) → isMarked marks y ≡ true → isMarked (withMark marks x) y ≡ true
   marked-stays x y h =
       by-cases (eqb (wordOf y) (wordOf x))
-      (λ t. let e = eqb-true (wordOf y) (wordOf x) t in rw (e, getD-set-same marks (wordOf x) (putIn (getD marks (wordOf x) 0) x) 0 (there x)) (has-stays (getD marks (wordOf x) 0) (x % 64) (y % 64) (rw e at h)))
+      (λ t. let e = eqb-true (wordOf y) (wordOf x) t in rw (e, getD-set-same marks (wordOf x) (putIn (getD marks (wordOf x) 0) x) 0 (there x)) (eq-eqb _ _ (bit-stays (getD marks (wordOf x) 0) (x % 64) (y % 64) (eqb-true _ _ (rw e at h)))))
       (λ f. rw (getD-set-other marks (wordOf x) (wordOf y) (putIn (getD marks (wordOf x) 0) x) 0 (eqb-false (wordOf y) (wordOf x) f)) h)
 
   pub all-stay : (x : ℕ) (l : List ℕ) → all (isMarked marks) l ≡ true → all (isMarked (withMark marks x)) l ≡ true

@@ -1,7 +1,8 @@
 -- Marks of identifiers, and what they tell of the requests that set theirs.
-use Prim.Native.Nat.{ℕ, _+_, _/_, _%_, _^_}
+use Prim.Native.Nat.{ℕ, _/_, _%_, _^_}
 use mathlib.Core.Bool.{Bool, false, _||_}
 use mathlib.Core.List.{List}
+use lib.Bits.{bitOr}
 use lib.Dec.{eqb}
 use lib.ListN.{getD, set, replicate}
 use Rattle.ground.specs.Choice.{when_then_else_}
@@ -10,23 +11,19 @@ use Rattle.timed.specs.Timed.{waits}
 use Rattle.remote.specs.declared.Pendings.{Pendings}
 use Rattle.marks.specs.declared.Marked.{Marked}
 
--- the mask has bit k
-abbrev pub has : ℕ → ℕ → Bool
-has mask k = eqb (mask / 2 ^ k % 2) 1
-
--- the mask with bit k
-abbrev pub withBit : ℕ → ℕ → ℕ
-withBit mask k = when has mask k then mask else mask + 2 ^ k
-
--- a mark is a bit for each identifier modulo 512, in eight words: the word that has it, whether it is set there, and that word with it
+-- a mark is a bit for each identifier modulo 512, in eight words: the word that has it, how often it is set there, 0 or 1, and that word with it
 abbrev pub wordOf : ℕ → ℕ
 wordOf identifier = identifier / 64 % 8
 
-abbrev pub setIn : ℕ → ℕ → Bool
-setIn word identifier = has word (identifier % 64)
+abbrev pub countIn : ℕ → ℕ → ℕ
+countIn word identifier = word / 2 ^ (identifier % 64) % 2
 
 abbrev pub putIn : ℕ → ℕ → ℕ
-putIn word identifier = withBit word (identifier % 64)
+putIn word identifier = bitOr word (2 ^ (identifier % 64))
+
+-- whether it is set there
+abbrev pub setIn : ℕ → ℕ → Bool
+setIn word identifier = eqb (countIn word identifier) 1
 
 -- the mark of an identifier is set
 abbrev pub isMarked : List ℕ → ℕ → Bool

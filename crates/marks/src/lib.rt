@@ -1,9 +1,8 @@
 // Marks of identifiers: a bit for each identifier modulo 512, in eight words. An identifier whose mark is not set is none of those that set theirs; two
 // that share a mark may differ.
 ghost use mathlib.Core.Path.{_≡_};
-ghost use Prim.Native.Nat.{_<_};
 ghost use lib.ListN.{length};
-ghost use Rattle.marks.specs.Marks.{has, withBit, wordOf, setIn, putIn, isMarked, marksWith, twiceIn, withFour, toldOf};
+ghost use Rattle.marks.specs.Marks.{wordOf, countIn, setIn, putIn, isMarked, marksWith, twiceIn, withFour, toldOf};
 use remote::Pendings;
 use timed::Pending;
 
@@ -13,25 +12,6 @@ pub struct Marked {
     pub marked: bool,
 }
 
-// Whether a mask has bit k.
-fn has(mask: u64, k: u64) -> bool
-    requires { ⌜ k < 64 ⌝ }
-    ensures { λ r. ⌜ r ≡ has mask k ⌝ }
-{
-    (mask >> k) % 2 == 1
-}
-
-// A mask with bit k.
-fn with_bit(mask: u64, k: u64) -> u64
-    requires { ⌜ k < 64 ⌝ }
-    ensures { λ r. ⌜ r ≡ withBit mask k ⌝ }
-{
-    if has(mask, k) {
-        return mask;
-    }
-    mask + bits::bit(k as usize)
-}
-
 // The word that has the mark of an identifier,
 pub fn word_of(identifier: u16) -> usize
     ensures { λ r. ⌜ r ≡ wordOf identifier ⌝ }
@@ -39,20 +19,28 @@ pub fn word_of(identifier: u16) -> usize
     (identifier / 64 % 8) as usize
 }
 
-// whether it is set in that word,
-pub fn set_in(word: u64, identifier: u16) -> bool
-    ensures { λ r. ⌜ r ≡ setIn word identifier ⌝ }
+// how often it is set in that word, 0 or 1,
+pub fn count_in(word: u64, identifier: u16) -> u64
+    ensures { λ r. ⌜ r ≡ countIn word identifier ⌝ }
 {
     let k = (identifier % 64) as u64;
-    has(word, k)
+    (word >> k) % 2
 }
 
 // and that word with it.
 pub fn put_in(word: u64, identifier: u16) -> u64
     ensures { λ r. ⌜ r ≡ putIn word identifier ⌝ }
 {
-    let k = (identifier % 64) as u64;
-    with_bit(word, k)
+    let k = (identifier % 64) as usize;
+    word | bits::bit(k)
+}
+
+// Whether it is set in that word.
+fn set_in(word: u64, identifier: u16) -> bool
+    ensures { λ r. ⌜ r ≡ setIn word identifier ⌝ }
+{
+    let n = count_in(word, identifier);
+    n == 1
 }
 
 // Whether the mark of an identifier is set.

@@ -12,7 +12,7 @@ use Rattle.call.specs.declared.Call.{Call}
 use Rattle.call.specs.Record.{isFree, isOutgoing, isIncoming, invoked, requested}
 use Rattle.call.specs.Soundness.{exactly, only, outgoingUnused, incomingUnused, ownThere, cdfHolds, numbersHold, requestHolds, identifierThere, excludes, waitHolds, startHolds, soundIncoming, waitingHolds, historyHolds, divertHolds, soundOutgoing, soundCall}
 use Rattle.sound.specs.Words.{codesWord}
-use Rattle.sound.specs.Cases.{divertedBy, closedBy, requestBy, incomingBase, incomingRest, openBy, incomingBy, outgoingBase, toldBy, waitingBy, outgoingBy, freeBy}
+use Rattle.sound.specs.Cases.{divertedBy, closedBy, requestBy, openBase, incomingBase, incomingRest, openBy, incomingBy, outgoingBase, toldBy, waitingBy, outgoingBy, freeBy}
 
 and-true : (a : Bool) → a && true ≡ a
 and-true true = refl
@@ -180,10 +180,26 @@ short c t =
 either : (c : Call) → (when eqb (codesWord c) 0 then incomingRest c else when divertedBy c then closedBy c else false) ≡ (when divertedBy c then closedBy c else false)
 either c = by-cases (eqb (codesWord c) 0) (λ t. rw t (short c t)) (λ f. rw f)
 
--- with an open request, and without
-open-same : (last : ℕ) (c : Call) → requested c ≡ true → openBy last c ≡ soundIncoming last c
-open-same last c t = two-tests (incomingBase c) (divertedBy c) (requestBy last c) ∙ (rw t at (incoming-all last c))
+-- with an open request, whose reason fits a basic state that is in range
+fits-in-range : (reason basic : ℕ) → (leb 1 basic && leb basic 3 && fitsIn reason basic) ≡ fitsIn reason basic
+fits-in-range reason zero = rw (and-false (eqb reason 1 || eqb reason 2), and-false (eqb reason 3))
+fits-in-range reason (suc zero) = refl
+fits-in-range reason (suc (suc zero)) = refl
+fits-in-range reason (suc (suc (suc n))) =
+    rw (over-1 (suc n), over-2 n, and-false (eqb reason 1 || eqb reason 2), and-false (eqb reason 3)) (and-false (leb 1 (suc (suc (suc n))) && leb (suc (suc (suc n))) 3))
 
+ranged : (a r o d g f : Bool) → (r && f) ≡ f → (a && o && d && (when g then f else false)) ≡ (a && r && o && d && (when g then f else false))
+ranged a true o d g f h = rw (and-true a)
+ranged a false o d true f h = rw (← h, and-false (a && o && d), and-false a)
+ranged a false o d false f h = rw (and-false (a && o && d), and-false a)
+
+open-same : (last : ℕ) (c : Call) → requested c ≡ true → openBy last c ≡ soundIncoming last c
+open-same last c t =
+    two-tests (openBase c) (divertedBy c) (requestBy last c)
+    ∙ ranged (outgoingUnused c) (leb 1 (c .basic) && leb (c .basic) 3) (ownThere c) (divertedBy c) (eqb (c .granted) 0 && not (eqb (c .identifier) 0) && startHolds last c) (fitsIn (c .reason) (c .basic)) (fits-in-range (c .reason) (c .basic))
+    ∙ (rw t at (incoming-all last c))
+
+-- and without
 incoming-same : (last : ℕ) (c : Call) → requested c ≡ false → incomingBy c ≡ soundIncoming last c
 incoming-same last c f =
     ap (λ (b : Bool). when incomingBase c then b else false) (either c) ∙ two-tests (incomingBase c) (divertedBy c) (closedBy c) ∙ (rw f at (incoming-all last c))

@@ -6,7 +6,7 @@ use Rattle.ground.proofs.Zeros.{two, four, six}
 use Rattle.waits.specs.Soundness.{waitsUnused}
 use Rattle.call.specs.declared.Call.{Call}
 use Rattle.call.specs.Soundness.{historyUnused, outgoingUnused}
-use Rattle.sound.specs.Words.{legsWord, partyWord, codesWord, numbersWord}
+use Rattle.sound.specs.Words.{legsWord, partyWord, codesWord, numbersWord, pastWord}
 
 pub legs-zero : (c : Call) → eqb (legsWord c) 0 ≡ (eqb (c .cdo) 0 && eqb (c .cdr) 0)
 legs-zero c = two (c .cdo) (c .cdr) 255
@@ -37,3 +37,6 @@ codes-zero c = four (c .cds) (c .cdf) (c .granted) (c .counter) 255 65535 167772
 
 pub numbers-zero : (c : Call) → eqb (numbersWord c) 0 ≡ (eqb (c .own) 0 && eqb (c .diverting) 0 && eqb (c .original) 0 && eqb (c .identifier) 0)
 numbers-zero c = four (c .own) (c .diverting) (c .original) (c .identifier) 65535 4294967295 281474976710655
+
+pub past-zero : (c : Call) → eqb (pastWord c) 0 ≡ (eqb (c .diverting) 0 && eqb (c .original) 0)
+past-zero c = two (c .diverting) (c .original) 65535

@@ -16,7 +16,11 @@ divertedBy c =
     when undiverted c then cdfNone c && (eqb (c .diverting) 0 && eqb (c .original) 0) else
     leb (c .counter) 15 && (eqb (c .cdf) CdfDone || (wait c && not (active c)))
 
--- what holds of each incoming call's record
+-- what holds of each incoming call's record beside its basic state
+abbrev pub openBase : Call → Bool
+openBase c = outgoingUnused c && ownThere c
+
+-- and with it
 abbrev pub incomingBase : Call → Bool
 incomingBase c = outgoingUnused c && (leb Proceeding (c .basic) && leb (c .basic) Active) && ownThere c
 
@@ -34,9 +38,9 @@ closedBy c =
 abbrev pub requestBy : ℕ → Call → Bool
 requestBy last c = when eqb (c .granted) unmarked && not (eqb (c .identifier) 0) && startHolds last c then fits (c .reason) c else false
 
--- an incoming call's record with an open request
+-- an incoming call's record with an open request: its basic state is in range where the reason fits it
 abbrev pub openBy : ℕ → Call → Bool
-openBy last c = when incomingBase c then (when divertedBy c then requestBy last c else false) else false
+openBy last c = when openBase c then (when divertedBy c then requestBy last c else false) else false
 
 -- one without, the short case first
 abbrev pub incomingBy : Call → Bool

@@ -19,3 +19,7 @@ codesWord c = c .cds + 256 * c .cdf + 65536 * c .granted + 16777216 * c .counter
 -- the numbers of an incoming call, and its identifier
 abbrev pub numbersWord : Call → ℕ
 numbersWord c = c .own + 65536 * c .diverting + 4294967296 * c .original + 281474976710656 * c .identifier
+
+-- of these the two of a diversion before
+abbrev pub pastWord : Call → ℕ
+pastWord c = c .diverting + 65536 * c .original

@@ -5,8 +5,8 @@ ghost use mathlib.Core.Bool.{_&&_};
 ghost use Rattle.waits.specs.Soundness.{waitsHold};
 ghost use Rattle.call.specs.Record.{delivered};
 ghost use Rattle.call.specs.Soundness.{historyUnused, outgoingUnused, incomingUnused, outgoingCodes, historyHolds, divertHolds, soundCall};
-ghost use Rattle.sound.specs.Cases.{divertedBy, closedBy, requestBy, incomingBase, incomingRest, openBy, incomingBy, outgoingBase, toldBy, waitingBy, outgoingBy, freeBy};
-ghost use Rattle.sound.specs.Words.{legsWord, partyWord, codesWord, numbersWord};
+ghost use Rattle.sound.specs.Cases.{divertedBy, closedBy, requestBy, openBase, incomingBase, incomingRest, openBy, incomingBy, outgoingBase, toldBy, waitingBy, outgoingBy, freeBy};
+ghost use Rattle.sound.specs.Words.{legsWord, partyWord, codesWord, numbersWord, pastWord};
 use call::Call;
 use notice::History;
 
@@ -54,6 +54,15 @@ fn numbers_word(c: Call) -> u64
         + 281474976710656 * (identifier as u64)
 }
 
+// Those of a diversion before.
+fn past_word(c: Call) -> u64
+    ensures { λ r. ⌜ r ≡ pastWord c ⌝ }
+{
+    let diverting = c.diverting;
+    let original = c.original;
+    (diverting as u64) + 65536 * (original as u64)
+}
+
 // All that only an outgoing call has is 0.
 fn outgoing_unused(c: Call) -> bool
     ensures { λ r. ⌜ r ≡ outgoingUnused c ⌝ }
@@ -88,7 +97,8 @@ fn diverted_holds(c: Call) -> bool
     let counter = c.counter;
     let cdf = c.cdf;
     if counter == 0 {
-        return (cdf == 0) & ((c.diverting == 0) & (c.original == 0));
+        let past = past_word(c);
+        return (cdf == 0) & (past == 0);
     }
     (counter <= 15) & ((cdf == 2) | ((cdf == 1) & !(c.basic == 3)))
 }
@@ -118,6 +128,14 @@ fn request_holds(c: Call, last: u64) -> bool
     false
 }
 
+// What holds of each incoming call's record beside its basic state. With an open request no more is asked of the state than that the reason fits it: such a one is in range.
+fn open_base(c: Call) -> bool
+    ensures { λ r. ⌜ r ≡ openBase c ⌝ }
+{
+    let unused = outgoing_unused(c);
+    unused & !(c.own == 0)
+}
+
 // What holds of each incoming call's record.
 fn incoming_base(c: Call) -> bool
     ensures { λ r. ⌜ r ≡ incomingBase c ⌝ }
@@ -140,7 +158,7 @@ fn incoming_rest(c: Call) -> bool
 pub fn sound_open(c: Call, last: u64) -> bool
     ensures { λ r. ⌜ r ≡ openBy last c ⌝ }
 {
-    if incoming_base(c) {
+    if open_base(c) {
         if diverted_holds(c) {
             return request_holds(c, last);
         }

@@ -1,8 +1,8 @@
 -- What one walk notes of a table, from its last record to its first, and what it tells with the station's own requests.
 use Prim.Native.Nat.{ℕ, suc}
-use mathlib.Core.Bool.{Bool, true, false, _&&_}
+use mathlib.Core.Bool.{Bool, true, false, _&&_, not}
 use mathlib.Core.List.{List, [], _∷_}
-use lib.Dec.{ltb}
+use lib.Dec.{eqb, ltb}
 use Rattle.ground.specs.Choice.{when_then_else_}
 use Rattle.timed.specs.declared.Pending.{Pending}
 use Rattle.timed.specs.Timed.{waits}
@@ -68,6 +68,10 @@ passedOf q n i (c ∷ rest) = passedWith q (passedOf q n (suc i) rest) c i
 unfoldable pub markedOf : List Call → Bool × List ℕ
 markedOf [] = noMarks
 markedOf (c ∷ rest) = withRequest (markedOf rest) (requestIn c)
+
+-- a walk counts how often a mark is set that was set before; what it tells is whether any was
+abbrev pub anyTwice : ℕ → Bool
+anyTwice twice = not (eqb twice 0)
 
 -- what the walk tells, of what it noted and what was marked: the station's own requests set their marks too
 abbrev pub summedOf : Passed → Bool × List ℕ → Asked → Noted

@@ -5,7 +5,7 @@ ghost use Prim.Native.Nat.{_≤_, _<_};
 ghost use lib.ListN.{length, take, getD};
 ghost use Rattle.call.specs.Record.{freeCall, requestOf};
 ghost use Rattle.sound.specs.Cases.{incomingBy, waitingBy, outgoingBy};
-ghost use Rattle.survey.specs.Survey.{freeWith, dueWith, unseenOf, passedWith, withSoundness, passedOpen, passedFree, summedOf, surveyOf};
+ghost use Rattle.survey.specs.Survey.{freeWith, dueWith, unseenOf, passedWith, withSoundness, passedOpen, passedFree, anyTwice, summedOf, surveyOf};
 use call::Call;
 use remote::Pendings;
 use timed::Pending;
@@ -177,10 +177,11 @@ fn note_at(table: &[Call], k: usize, v: Passed, q: Asked) -> Passed
     note_free(v, c, k)
 }
 
-// What the walk tells, of what it noted and what was marked.
-fn summed(v: Passed, clash: bool, marks: [u64; 8], q: Asked) -> Noted
-    ensures { λ r. ⌜ r ≡ summedOf v (clash, marks) q ⌝ }
+// What the walk tells, of what it noted, how often a mark was set that was set before, and the marks.
+fn summed(v: Passed, twice: u64, marks: [u64; 8], q: Asked) -> Noted
+    ensures { λ r. ⌜ r ≡ summedOf v (anyTwice twice, marks) q ⌝ }
 {
+    let clash = !(twice == 0);
     let m = marks::told(clash, marks, q.pending, q.next);
     Noted {
         sound: v.sound,
@@ -198,7 +199,7 @@ pub fn survey(table: &[Call], n: usize, q: Asked) -> Noted
 {
     let mut v = unseen(n);
     let mut marks = [0u64; 8];
-    let mut clash = false;
+    let mut twice: u64 = 0;
     let mut i = n;
     while 0 < i {
         let k = i - 1;
@@ -207,11 +208,11 @@ pub fn survey(table: &[Call], n: usize, q: Asked) -> Noted
         if v.requested {
             let w = marks::word_of(v.identifier);
             let word = marks[w];
-            let twice = marks::set_in(word, v.identifier);
-            clash = clash | twice;
+            let again = marks::count_in(word, v.identifier);
+            twice = twice + again;
             let more = marks::put_in(word, v.identifier);
             marks[w] = more;
         }
     }
-    summed(v, clash, marks, q)
+    summed(v, twice, marks, q)
 }

@@ -1,24 +1,19 @@
 -- Each arm of the loop by what becomes of the event; the invariant is the text so far. Assumes nothing.
-use Prim.Native.Nat.{ℕ, _≤_, _<_, _+_, _-_, _/_, _*_}
+use Prim.Native.Nat.{ℕ, _≤_, _<_, _+_, _-_, _*_}
 use mathlib.Core.List.{List}
 use mathlib.Core.Logic.{⊎-elim}
-use mathlib.Core.Path.{_≡_, refl, sym, ap, _∙_}
+use mathlib.Core.Path.{_≡_}
 use native.Mathlib.Omega.{arith}
 use borrow.Author.Needs.{needs}
-use lib.ListN.{length, getD, set}
+use lib.ListN.{length, set}
 use Rattle.ground.proofs.Walks.{mapped-long}
 use Rattle.call.specs.declared.Call.{Call}
-use Rattle.call.specs.Record.{freeCall}
-use Rattle.call.proofs.Read.{unread, read-any}
 use Rattle.expiry.specs.Expiry.{never}
-use Rattle.sight.specs.declared.Seen.{Seen}
 use Rattle.station.specs.declared.Station.{Station}
 use Rattle.board.specs.declared.Board.{Board}
-use Rattle.board.specs.Board.{within}
-use Rattle.board.proofs.OneEvent.{stepSoundBoard}
-use Rattle.board.proofs.Boards.{tested-short, within-small, within-near}
-use Rattle.board.proofs.Beside.{notes, boardNow, Beside, beside-start, beside-soon, beside-next, may-flip}
-use Rattle.board.proofs.Steps.{turn-refused, turn-far, turn-there, turn-doable, turn-done}
+use Rattle.board.proofs.Boards.{tested-short, in-array}
+use Rattle.board.proofs.Beside.{notes, boardNow, Beside, beside-start, beside-soon}
+use Rattle.board.proofs.Steps.{turn-refused, turn-far, turn-doable, turn-done, turn-flips, turn-beside}
 use Rattle.panel.proofs.Playing.{Playing, playing-start, played-text, played-board}
 use Rattle.panel.proofs.InPlace.{playing-refused, playing-far, playing-done}
 use Rattle.panel.proofs.play.Statement.{statement}
@@ -47,17 +42,13 @@ place-on-requires c κs =
 
 mul-c : tie.Need-mul-c Inv-loop μ-loop
 mul-c c =
-    let wi = c .within in
-    let m : wi .result < 64 = rw (wi .ensures) (within-small _ _ (tested-short (c .before .before .before .before .before .before .before .before .before .before .before .before .before .before .args .b) (c .before .before .before .before .before .before .before .before .before .before .before .before .before .before .pre .0))) in
-    let w = c .before .before .before .before .before .loop .inv .1 in
-    omega (arith, m, w .long, w .wide, w .broad)
+    let a = c .before .before .before .before .before .before .before .before .before .before .before .before .before .before in
+    omega (arith, in-array (a .args .b) _ _ (a .pre .0) (c .within .ensures))
 
 array-copy-out-c : tie.Need-array-copy-out-c Inv-loop μ-loop
 array-copy-out-c c =
-    let wi = c .within in
-    let m : wi .result < 64 = rw (wi .ensures) (within-small _ _ (tested-short (c .before .before .before .before .before .before .before .before .before .before .before .before .before .before .args .b) (c .before .before .before .before .before .before .before .before .before .before .before .before .before .before .pre .0))) in
-    let w = c .before .before .before .before .before .loop .inv .1 in
-    omega (arith, m, w .long, w .wide, w .broad)
+    let a = c .before .before .before .before .before .before .before .before .before .before .before .before .before .before in
+    omega (arith, in-array (a .args .b) _ _ (a .pre .0) (c .within .ensures), c .before .before .before .before .before .loop .inv .1 .long)
 
 identifier-in-requires : tie.Need-identifier-in-requires Inv-loop μ-loop
 identifier-in-requires c κs =
@@ -87,7 +78,6 @@ acted-requires : tie.Need-acted-requires Inv-loop μ-loop
 acted-requires c κs =
     let a = c .before .before .before .before .before .before .before .before .before .before .before .before .before .before .before .before .before .before .before .before in
     let b = a .args .b in
-    let h = tested-short b (a .pre .0) in
     let v = c .before .before .before .before .before .before .before .before .before .before .before .loop in
     let w = v .inv .1 in
     let ev = c .before .before .before .before .before .before .before .before .before .event-at in
@@ -96,32 +86,23 @@ acted-requires c κs =
     let wi = c .before .before .before .before .before .before .within in
     let id = c .before .before .before .identifier-in in
     let t = c .before .before .turned in
-    let d = notes (v .free) (v .soon) (v .dues) (v .held) in
     let late : e .time ≤ never = omega (arith, ev .ok) in
-    let seen : Seen = record { len = b .len; place = pl .result; identifier = id .result; call = getD (v .calls) (wi .result) unread } in
-    let near : pl .result < b .len → wi .result ≡ pl .result = λ l. wi .ensures ∙ within-near (pl .result) (b .len) l in
-    let there : pl .result < b .len → seen .call ≡ getD (v .calls) (pl .result) freeCall = λ l. ap (λ i. getD (v .calls) i unread) (near l) ∙ read-any (v .calls) (pl .result) unread freeCall (omega (arith, l, w .long, h)) in
-    turn-doable (boardNow b (v .s) (v .calls)) d e h w late seen refl (pl .ensures) there (id .ensures) (t .result) (t .ensures) (c .enum-told2 .given .1) (v .inv .2)
+    turn-doable b (v .s) (v .calls) (v .free) (v .soon) (v .dues) (v .held) e (a .pre .0) w late (pl .result) (wi .result) (id .result) (pl .ensures) (wi .ensures) (id .ensures) (t .result) (t .ensures) (c .enum-told2 .given .1) (v .inv .2)
 
 mul-calls : tie.Need-mul-calls Inv-loop μ-loop
 mul-calls c =
-    let wi = c .before .before .before .before .before .before .before .before .within in
-    let m : wi .result < 64 = rw (wi .ensures) (within-small _ _ (tested-short (c .before .before .before .before .before .before .before .before .before .before .before .before .before .before .before .before .before .before .before .before .before .before .args .b) (c .before .before .before .before .before .before .before .before .before .before .before .before .before .before .before .before .before .before .before .before .before .before .pre .0))) in
-    let w = c .before .before .before .before .before .before .before .before .before .before .before .before .before .loop .inv .1 in
-    omega (arith, m, w .long, w .wide, w .broad)
+    let a = c .before .before .before .before .before .before .before .before .before .before .before .before .before .before .before .before .before .before .before .before .before .before in
+    omega (arith, in-array (a .args .b) _ _ (a .pre .0) (c .before .before .before .before .before .before .before .before .within .ensures))
 
 array-set-from-calls : tie.Need-array-set-from-calls Inv-loop μ-loop
 array-set-from-calls c =
-    let wi = c .before .before .before .before .before .before .before .before .within in
-    let m : wi .result < 64 = rw (wi .ensures) (within-small _ _ (tested-short (c .before .before .before .before .before .before .before .before .before .before .before .before .before .before .before .before .before .before .before .before .before .before .args .b) (c .before .before .before .before .before .before .before .before .before .before .before .before .before .before .before .before .before .before .before .before .before .before .pre .0))) in
-    let w = c .before .before .before .before .before .before .before .before .before .before .before .before .before .loop .inv .1 in
-    omega (arith, m, w .long, w .wide, w .broad)
+    let a = c .before .before .before .before .before .before .before .before .before .before .before .before .before .before .before .before .before .before .before .before .before .before in
+    omega (arith, in-array (a .args .b) _ _ (a .pre .0) (c .before .before .before .before .before .before .before .before .within .ensures), c .before .before .before .before .before .before .before .before .before .before .before .before .before .loop .inv .1 .long)
 
 flip-requires : tie.Need-flip-requires Inv-loop μ-loop
 flip-requires c κs =
     let a = c .before .before .before .before .before .before .before .before .before .before .before .before .before .before .before .before .before .before .before .before .before .before in
     let b = a .args .b in
-    let h = tested-short b (a .pre .0) in
     let v = c .before .before .before .before .before .before .before .before .before .before .before .before .before .loop in
     let w = v .inv .1 in
     let ev = c .before .before .before .before .before .before .before .before .before .before .before .event-at in
@@ -130,51 +111,35 @@ flip-requires c κs =
     let wi = c .before .before .before .before .before .before .before .before .within in
     let id = c .before .before .before .before .before .identifier-in in
     let t = c .before .before .before .before .turned in
-    let d = notes (v .free) (v .soon) (v .dues) (v .held) in
     let late : e .time ≤ never = omega (arith, ev .ok) in
-    let seen : Seen = record { len = b .len; place = pl .result; identifier = id .result; call = getD (v .calls) (wi .result) unread } in
-    let near : pl .result < b .len → wi .result ≡ pl .result = λ l. wi .ensures ∙ within-near (pl .result) (b .len) l in
-    let there : pl .result < b .len → seen .call ≡ getD (v .calls) (pl .result) freeCall = λ l. ap (λ i. getD (v .calls) i unread) (near l) ∙ read-any (v .calls) (pl .result) unread freeCall (omega (arith, l, w .long, h)) in
     let known = c .before .before .enum-told2 .given in
     let x = c .before .acted .result in
-    let l = turn-there (boardNow b (v .s) (v .calls)) d e h w late seen refl (pl .ensures) there (id .ensures) (t .result) (t .ensures) (known .1) in
-    rw (near l, read-any (v .calls) (pl .result) unread freeCall (omega (arith, l, w .long, h)))
-    (may-flip (b .len) (v .calls) (v .free) (v .soon) (v .dues) (v .held) h w (pl .result) (x .call) l)
+    turn-flips b (v .s) (v .calls) (v .free) (v .soon) (v .dues) (v .held) e (a .pre .0) w late (pl .result) (wi .result) (id .result) (pl .ensures) (wi .ensures) (id .ensures) (t .result) (t .ensures) (known .1) (x .call)
 
 mul-dues : tie.Need-mul-dues Inv-loop μ-loop
 mul-dues c =
-    let wi = c .before .before .before .before .before .before .before .before .before .before .within in
-    let m : wi .result < 64 = rw (wi .ensures) (within-small _ _ (tested-short (c .before .before .before .before .before .before .before .before .before .before .before .before .before .before .before .before .before .before .before .before .before .before .before .before .args .b) (c .before .before .before .before .before .before .before .before .before .before .before .before .before .before .before .before .before .before .before .before .before .before .before .before .pre .0))) in
-    let w = c .before .before .before .before .before .before .before .before .before .before .before .before .before .before .before .loop .inv .1 in
-    omega (arith, m, w .long, w .wide, w .broad)
+    let a = c .before .before .before .before .before .before .before .before .before .before .before .before .before .before .before .before .before .before .before .before .before .before .before .before in
+    omega (arith, in-array (a .args .b) _ _ (a .pre .0) (c .before .before .before .before .before .before .before .before .before .before .within .ensures))
 
 array-write-dues : tie.Need-array-write-dues Inv-loop μ-loop
 array-write-dues c =
-    let wi = c .before .before .before .before .before .before .before .before .before .before .within in
-    let m : wi .result < 64 = rw (wi .ensures) (within-small _ _ (tested-short (c .before .before .before .before .before .before .before .before .before .before .before .before .before .before .before .before .before .before .before .before .before .before .before .before .args .b) (c .before .before .before .before .before .before .before .before .before .before .before .before .before .before .before .before .before .before .before .before .before .before .before .before .pre .0))) in
-    let w = c .before .before .before .before .before .before .before .before .before .before .before .before .before .before .before .loop .inv .1 in
-    omega (arith, m, w .long, w .wide, w .broad)
+    let a = c .before .before .before .before .before .before .before .before .before .before .before .before .before .before .before .before .before .before .before .before .before .before .before .before in
+    omega (arith, in-array (a .args .b) _ _ (a .pre .0) (c .before .before .before .before .before .before .before .before .before .before .within .ensures), c .before .before .before .before .before .before .before .before .before .before .before .before .before .before .before .loop .inv .1 .wide)
 
 mul-held : tie.Need-mul-held Inv-loop μ-loop
 mul-held c =
-    let wi = c .before .before .before .before .before .before .before .before .before .before .before .before .within in
-    let m : wi .result < 64 = rw (wi .ensures) (within-small _ _ (tested-short (c .before .before .before .before .before .before .before .before .before .before .before .before .before .before .before .before .before .before .before .before .before .before .before .before .before .before .args .b) (c .before .before .before .before .before .before .before .before .before .before .before .before .before .before .before .before .before .before .before .before .before .before .before .before .before .before .pre .0))) in
-    let w = c .before .before .before .before .before .before .before .before .before .before .before .before .before .before .before .before .before .loop .inv .1 in
-    omega (arith, m, w .long, w .wide, w .broad)
+    let a = c .before .before .before .before .before .before .before .before .before .before .before .before .before .before .before .before .before .before .before .before .before .before .before .before .before .before in
+    omega (arith, in-array (a .args .b) _ _ (a .pre .0) (c .before .before .before .before .before .before .before .before .before .before .before .before .within .ensures))
 
 array-write-held : tie.Need-array-write-held Inv-loop μ-loop
 array-write-held c =
-    let wi = c .before .before .before .before .before .before .before .before .before .before .before .before .within in
-    let m : wi .result < 64 = rw (wi .ensures) (within-small _ _ (tested-short (c .before .before .before .before .before .before .before .before .before .before .before .before .before .before .before .before .before .before .before .before .before .before .before .before .before .before .args .b) (c .before .before .before .before .before .before .before .before .before .before .before .before .before .before .before .before .before .before .before .before .before .before .before .before .before .before .pre .0))) in
-    let w = c .before .before .before .before .before .before .before .before .before .before .before .before .before .before .before .before .before .loop .inv .1 in
-    omega (arith, m, w .long, w .wide, w .broad)
+    let a = c .before .before .before .before .before .before .before .before .before .before .before .before .before .before .before .before .before .before .before .before .before .before .before .before .before .before in
+    omega (arith, in-array (a .args .b) _ _ (a .pre .0) (c .before .before .before .before .before .before .before .before .before .before .before .before .within .ensures), c .before .before .before .before .before .before .before .before .before .before .before .before .before .before .before .before .before .loop .inv .1 .broad)
 
 cast-answer-of : tie.Need-cast-answer-of Inv-loop μ-loop
 cast-answer-of c =
-    let wi = c .before .before .before .before .before .before .before .before .before .before .before .before .before .within in
-    let m : wi .result < 64 = rw (wi .ensures) (within-small _ _ (tested-short (c .before .before .before .before .before .before .before .before .before .before .before .before .before .before .before .before .before .before .before .before .before .before .before .before .before .before .before .args .b) (c .before .before .before .before .before .before .before .before .before .before .before .before .before .before .before .before .before .before .before .before .before .before .before .before .before .before .before .pre .0))) in
-    let w = c .before .before .before .before .before .before .before .before .before .before .before .before .before .before .before .before .before .before .loop .inv .1 in
-    omega (arith, m, w .long, w .wide, w .broad)
+    let a = c .before .before .before .before .before .before .before .before .before .before .before .before .before .before .before .before .before .before .before .before .before .before .before .before .before .before .before in
+    omega (arith, in-array (a .args .b) _ _ (a .pre .0) (c .before .before .before .before .before .before .before .before .before .before .before .before .before .within .ensures))
 
 add-write-line-3 : tie.Need-add-write-line-3 Inv-loop μ-loop
 add-write-line-3 c =
@@ -205,7 +170,6 @@ loop-again : tie.Need-loop-again Inv-loop μ-loop
 loop-again c =
     let a = c .before .before .before .before .before .before .before .before .before .before .before .before .before .before .before .before .before .before .before in
     let b = a .args .b in
-    let h = tested-short b (a .pre .0) in
     let v = c .before .before .before .before .before .before .before .before .before .before .loop in
     let w = v .inv .1 in
     let ev = c .before .before .before .before .before .before .before .before .event-at in
@@ -214,28 +178,22 @@ loop-again c =
     let wi = c .before .before .before .before .before .within in
     let id = c .before .before .identifier-in in
     let t = c .before .turned in
-    let d = notes (v .free) (v .soon) (v .dues) (v .held) in
     let late : e .time ≤ never = omega (arith, ev .ok) in
-    let seen : Seen = record { len = b .len; place = pl .result; identifier = id .result; call = getD (v .calls) (wi .result) unread } in
-    let near : pl .result < b .len → wi .result ≡ pl .result = λ l. wi .ensures ∙ within-near (pl .result) (b .len) l in
-    let there : pl .result < b .len → seen .call ≡ getD (v .calls) (pl .result) freeCall = λ l. ap (λ i. getD (v .calls) i unread) (near l) ∙ read-any (v .calls) (pl .result) unread freeCall (omega (arith, l, w .long, h)) in
     let wide : c .before .before .before .before .before .before .before .before .before .before .before .before .before .before .before .before .least .result * 96 ≤ length (a .args .out .now) = omega (arith, c .before .before .before .before .before .before .before .before .before .before .loop, c .before .before .before .before .before .before .before .before .before .loop-test, c .before .before .before .before .before .before .before .before .before .before .before .before .before .before .before .before .before .before .before .pre .1, c .before .before .before .before .before .before .before .before .before .before .before .before .before .before .before .before .least .ensures, c .before .before .before .before .before .before .before .before .before .before .before .before .before .before .before .before .before .before .before .fits, c .before .before .before .before .before .before .before .before .before .before .loop .inv .0 .upto, c .before .before .before .before .before .before .before .before .before .before .loop .inv .0 .room, c .before .before .before .before .before .before .before .before .before .before .loop .inv .0 .same) in
     ⊎-elim
     (λ y.
     let known = y .1 .given in
-    joined b (a .args .position) (a .args .bytes .now) (a .args .out .now) (c .before .before .before .before .before .before .before .before .before .before .before .before .before .before .before .before .least .result) (v .k + 1) (y .5 .last .0) (v .calls) (v .s) (v .free) (v .soon) (v .dues) (v .held) (y .5 .result) (y .8) (y .9) (y .10) (y .11) (y .12) (y .13) (y .14) (y .15) (playing-refused b (a .args .position) (a .args .bytes .now) (a .args .out .now) (c .before .before .before .before .before .before .before .before .before .before .before .before .before .before .before .before .least .result) (v .s) (v .calls) (v .out) (v .at) (v .k) (v .inv .0) (c .before .before .before .before .before .before .before .before .before .loop-test .taken) e (ev .ensures) (known .0 .0) (y .5 .last .0) (y .5 .result) (turn-refused (boardNow b (v .s) (v .calls)) d e h w late seen refl (pl .ensures) there (id .ensures) (t .result) (t .ensures) (known .0 .0) (known .1) .1) (y .3 .result) (y .3 .ensures) (y .5 .ensures .0) (y .5 .ensures .1) wide (y .5 .kept .0), w, v .inv .2))
+    joined b (a .args .position) (a .args .bytes .now) (a .args .out .now) (c .before .before .before .before .before .before .before .before .before .before .before .before .before .before .before .before .least .result) (v .k + 1) (y .5 .last .0) (v .calls) (v .s) (v .free) (v .soon) (v .dues) (v .held) (y .5 .result) (y .8) (y .9) (y .10) (y .11) (y .12) (y .13) (y .14) (y .15) (playing-refused b (a .args .position) (a .args .bytes .now) (a .args .out .now) (c .before .before .before .before .before .before .before .before .before .before .before .before .before .before .before .before .least .result) (v .s) (v .calls) (v .out) (v .at) (v .k) (v .inv .0) (c .before .before .before .before .before .before .before .before .before .loop-test .taken) e (ev .ensures) (known .0 .0) (y .5 .last .0) (y .5 .result) (turn-refused b (v .s) (v .calls) (v .free) (v .soon) (v .dues) (v .held) e (a .pre .0) w late (pl .result) (wi .result) (id .result) (pl .ensures) (wi .ensures) (id .ensures) (t .result) (t .ensures) (known .0 .0) (known .1) .1) (y .3 .result) (y .3 .ensures) (y .5 .ensures .0) (y .5 .ensures .1) wide (y .5 .kept .0), w, v .inv .2))
     (⊎-elim
     (λ y.
     let known = y .1 .given in
     let soon = beside-soon (b .len) (v .calls) (v .free) (v .soon) (v .dues) (v .held) w _ (e .time) (y .3 .ensures) in
-    joined b (a .args .position) (a .args .bytes .now) (a .args .out .now) (c .before .before .before .before .before .before .before .before .before .before .before .before .before .before .before .before .least .result) (v .k + 1) (y .8 .last .0) (v .calls) (y .5 .result) (v .free) (y .3 .result) (v .dues) (v .held) (y .8 .result) (y .11) (y .12) (y .13) (y .14) (y .15) (y .16) (y .17) (y .18) (playing-far b (a .args .position) (a .args .bytes .now) (a .args .out .now) (c .before .before .before .before .before .before .before .before .before .before .before .before .before .before .before .before .least .result) (v .s) (v .calls) (v .out) (v .at) (v .k) (v .inv .0) (c .before .before .before .before .before .before .before .before .before .loop-test .taken) e (ev .ensures) _ (y .4 .result) (y .8 .last .0) (y .8 .result) (rw (y .5 .ensures) (turn-far (boardNow b (v .s) (v .calls)) d e h w late seen refl (pl .ensures) there (id .ensures) (t .result) (t .ensures) (y .4 .result) (known .1) (y .4 .ensures))) (y .6 .result) (y .6 .ensures) (y .8 .ensures .0) (y .8 .ensures .1) wide (y .8 .kept .0), soon, rw (y .5 .ensures) (v .inv .2)))
+    joined b (a .args .position) (a .args .bytes .now) (a .args .out .now) (c .before .before .before .before .before .before .before .before .before .before .before .before .before .before .before .before .least .result) (v .k + 1) (y .8 .last .0) (v .calls) (y .5 .result) (v .free) (y .3 .result) (v .dues) (v .held) (y .8 .result) (y .11) (y .12) (y .13) (y .14) (y .15) (y .16) (y .17) (y .18) (playing-far b (a .args .position) (a .args .bytes .now) (a .args .out .now) (c .before .before .before .before .before .before .before .before .before .before .before .before .before .before .before .before .least .result) (v .s) (v .calls) (v .out) (v .at) (v .k) (v .inv .0) (c .before .before .before .before .before .before .before .before .before .loop-test .taken) e (ev .ensures) _ (y .4 .result) (y .8 .last .0) (y .8 .result) (rw (y .5 .ensures) (turn-far b (v .s) (v .calls) (v .free) (v .soon) (v .dues) (v .held) e (a .pre .0) w late (pl .result) (wi .result) (id .result) (pl .ensures) (wi .ensures) (id .ensures) (t .result) (t .ensures) (y .4 .result) (known .1) (y .4 .ensures))) (y .6 .result) (y .6 .ensures) (y .8 .ensures .0) (y .8 .ensures .1) wide (y .8 .kept .0), soon, rw (y .5 .ensures) (v .inv .2)))
     (λ y.
     let known = y .1 .given in
     let x = y .2 .result in
-    let l = turn-there (boardNow b (v .s) (v .calls)) d e h w late seen refl (pl .ensures) there (id .ensures) (t .result) (t .ensures) (known .1) in
-    let i = near l in
-    let kept = beside-next (b .len) (v .calls) (v .free) (v .soon) (v .dues) (v .held) h w (wi .result) _ _ _ _ (x .call) (rw i l) (rw (read-any (v .calls) (wi .result) unread freeCall (omega (arith, l, i, w .long, h))) at (y .4 .ensures)) (y .5 .ensures) (y .6 .ensures) (y .7 .ensures) in
-    joined b (a .args .position) (a .args .bytes .now) (a .args .out .now) (c .before .before .before .before .before .before .before .before .before .before .before .before .before .before .before .before .least .result) (v .k + 1) (y .11 .last .0) (set (v .calls) (wi .result) (x .call)) (y .8 .result) (y .4 .result) (y .6 .result) (set (v .dues) (wi .result) (y .5 .result)) (set (v .held) (wi .result) (y .7 .result)) (y .11 .result) (y .14) (y .15) (y .16) (y .17) (y .18) (y .19) (y .20) (y .21) (playing-done b (a .args .position) (a .args .bytes .now) (a .args .out .now) (c .before .before .before .before .before .before .before .before .before .before .before .before .before .before .before .before .least .result) (v .s) (v .calls) (v .out) (v .at) (v .k) (v .inv .0) (c .before .before .before .before .before .before .before .before .before .loop-test .taken) e (ev .ensures) (wi .result) _ x (y .11 .last .0) (y .11 .result) (rw (y .8 .ensures, i) (turn-done (boardNow b (v .s) (v .calls)) d e h w late seen refl (pl .ensures) there (id .ensures) (t .result) (t .ensures) x (known .1) (y .2 .ensures))) (y .9 .result) (y .9 .ensures) (y .11 .ensures .0) (y .11 .ensures .1) wide (y .11 .kept .0), kept, rw (y .8 .ensures) (v .inv .2))))
+    let kept = turn-beside b (v .s) (v .calls) (v .free) (v .soon) (v .dues) (v .held) e (a .pre .0) w late (pl .result) (wi .result) (id .result) (pl .ensures) (wi .ensures) (id .ensures) (t .result) (t .ensures) (known .1) _ _ _ _ (x .call) (y .4 .ensures) (y .5 .ensures) (y .6 .ensures) (y .7 .ensures) in
+    joined b (a .args .position) (a .args .bytes .now) (a .args .out .now) (c .before .before .before .before .before .before .before .before .before .before .before .before .before .before .before .before .least .result) (v .k + 1) (y .11 .last .0) (set (v .calls) (wi .result) (x .call)) (y .8 .result) (y .4 .result) (y .6 .result) (set (v .dues) (wi .result) (y .5 .result)) (set (v .held) (wi .result) (y .7 .result)) (y .11 .result) (y .14) (y .15) (y .16) (y .17) (y .18) (y .19) (y .20) (y .21) (playing-done b (a .args .position) (a .args .bytes .now) (a .args .out .now) (c .before .before .before .before .before .before .before .before .before .before .before .before .before .before .before .before .least .result) (v .s) (v .calls) (v .out) (v .at) (v .k) (v .inv .0) (c .before .before .before .before .before .before .before .before .before .loop-test .taken) e (ev .ensures) (wi .result) _ x (y .11 .last .0) (y .11 .result) (rw (y .8 .ensures) (turn-done b (v .s) (v .calls) (v .free) (v .soon) (v .dues) (v .held) e (a .pre .0) w late (pl .result) (wi .result) (id .result) (pl .ensures) (wi .ensures) (id .ensures) (t .result) (t .ensures) x (known .1) (y .2 .ensures))) (y .9 .result) (y .9 .ensures) (y .11 .ensures .0) (y .11 .ensures .1) wide (y .11 .kept .0), kept, rw (y .8 .ensures) (v .inv .2))))
     (c .match .came)
 
 returns : tie.Need-returns Inv-loop μ-loop

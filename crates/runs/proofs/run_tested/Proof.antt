@@ -2,23 +2,19 @@
 use Prim.Native.Nat.{ℕ, _+_, _≤_, _<_, _-_, _/_}
 use mathlib.Core.List.{List}
 use mathlib.Core.Logic.{⊎-elim}
-use mathlib.Core.Path.{_≡_, refl, sym, ap, _∙_}
+use mathlib.Core.Path.{_≡_, refl, sym, _∙_}
 use native.Mathlib.Omega.{arith}
 use borrow.Author.Needs.{needs}
-use lib.ListN.{length, getD, set}
+use lib.ListN.{length, set}
 use Rattle.ground.proofs.Walks.{mapped-long}
 use Rattle.call.specs.declared.Call.{Call}
-use Rattle.call.specs.Record.{freeCall}
-use Rattle.call.proofs.Read.{unread, read-any}
 use Rattle.expiry.specs.Expiry.{never}
-use Rattle.sight.specs.declared.Seen.{Seen}
 use Rattle.station.specs.declared.Station.{Station}
 use Rattle.board.specs.declared.Board.{Board}
-use Rattle.board.specs.Board.{within}
 use Rattle.board.proofs.OneEvent.{stepSoundBoard}
-use Rattle.board.proofs.Boards.{tested-short, within-small, within-near}
-use Rattle.board.proofs.Beside.{notes, boardNow, Beside, beside-start, beside-soon, beside-next, may-flip}
-use Rattle.board.proofs.Steps.{turn-refused, turn-far, turn-there, turn-doable, turn-done}
+use Rattle.board.proofs.Boards.{tested-short, in-array}
+use Rattle.board.proofs.Beside.{notes, beside-start, beside-soon}
+use Rattle.board.proofs.Steps.{turn-refused, turn-far, turn-doable, turn-done, turn-flips, turn-beside}
 use Rattle.runs.proofs.Folds.{first-none}
 use Rattle.runs.proofs.Bridge.{runs-tested}
 use Rattle.runs.proofs.Playing.{Playing, playing-refused, playing-far, playing-done}
@@ -47,17 +43,13 @@ place-on-requires c κs =
 
 mul-c : tie.Need-mul-c Inv-loop μ-loop
 mul-c c =
-    let wi = c .within in
-    let m : wi .result < 64 = rw (wi .ensures) (within-small _ _ (tested-short (c .before .before .before .before .before .before .before .before .before .before .before .before .args .b) (c .before .before .before .before .before .before .before .before .before .before .before .before .pre))) in
-    let w = c .before .before .before .before .before .loop .inv .1 .beside in
-    omega (arith, m, w .long, w .wide, w .broad)
+    let a = c .before .before .before .before .before .before .before .before .before .before .before .before in
+    omega (arith, in-array (a .args .b) _ _ (a .pre) (c .within .ensures))
 
 array-copy-out-c : tie.Need-array-copy-out-c Inv-loop μ-loop
 array-copy-out-c c =
-    let wi = c .within in
-    let m : wi .result < 64 = rw (wi .ensures) (within-small _ _ (tested-short (c .before .before .before .before .before .before .before .before .before .before .before .before .args .b) (c .before .before .before .before .before .before .before .before .before .before .before .before .pre))) in
-    let w = c .before .before .before .before .before .loop .inv .1 .beside in
-    omega (arith, m, w .long, w .wide, w .broad)
+    let a = c .before .before .before .before .before .before .before .before .before .before .before .before in
+    omega (arith, in-array (a .args .b) _ _ (a .pre) (c .within .ensures), c .before .before .before .before .before .loop .inv .1 .beside .long)
 
 identifier-in-requires : tie.Need-identifier-in-requires Inv-loop μ-loop
 identifier-in-requires c κs =
@@ -75,23 +67,18 @@ add-done c = omega (arith, c .before .before .before .before .before .before .be
 
 mul-again : tie.Need-mul-again Inv-loop μ-loop
 mul-again c =
-    let wi = c .before .before .before .before .before .before .within in
-    let m : wi .result < 64 = rw (wi .ensures) (within-small _ _ (tested-short (c .before .before .before .before .before .before .before .before .before .before .before .before .before .before .before .before .before .before .args .b) (c .before .before .before .before .before .before .before .before .before .before .before .before .before .before .before .before .before .before .pre))) in
-    let w = c .before .before .before .before .before .before .before .before .before .before .before .loop .inv .1 .beside in
-    omega (arith, m, w .long, w .wide, w .broad)
+    let a = c .before .before .before .before .before .before .before .before .before .before .before .before .before .before .before .before .before .before in
+    omega (arith, in-array (a .args .b) _ _ (a .pre) (c .before .before .before .before .before .before .within .ensures))
 
 array-copy-out-again : tie.Need-array-copy-out-again Inv-loop μ-loop
 array-copy-out-again c =
-    let wi = c .before .before .before .before .before .before .within in
-    let m : wi .result < 64 = rw (wi .ensures) (within-small _ _ (tested-short (c .before .before .before .before .before .before .before .before .before .before .before .before .before .before .before .before .before .before .args .b) (c .before .before .before .before .before .before .before .before .before .before .before .before .before .before .before .before .before .before .pre))) in
-    let w = c .before .before .before .before .before .before .before .before .before .before .before .loop .inv .1 .beside in
-    omega (arith, m, w .long, w .wide, w .broad)
+    let a = c .before .before .before .before .before .before .before .before .before .before .before .before .before .before .before .before .before .before in
+    omega (arith, in-array (a .args .b) _ _ (a .pre) (c .before .before .before .before .before .before .within .ensures), c .before .before .before .before .before .before .before .before .before .before .before .loop .inv .1 .beside .long)
 
 acted-requires : tie.Need-acted-requires Inv-loop μ-loop
 acted-requires c κs =
     let a = c .before .before .before .before .before .before .before .before .before .before .before .before .before .before .before .before .before .before .before in
     let b = a .args .b in
-    let h = tested-short b (a .pre) in
     let v = c .before .before .before .before .before .before .before .before .before .before .before .before .loop in
     let w = v .inv .1 in
     let ev = c .before .before .before .before .before .before .before .before .before .before .event-at in
@@ -100,32 +87,23 @@ acted-requires c κs =
     let wi = c .before .before .before .before .before .before .before .within in
     let id = c .before .before .before .before .identifier-in in
     let t = c .before .before .before .turned in
-    let d = notes (v .free) (v .soon) (v .dues) (v .held) in
     let late : e .time ≤ never = omega (arith, ev .ok) in
-    let seen : Seen = record { len = b .len; place = pl .result; identifier = id .result; call = getD (v .calls) (wi .result) unread } in
-    let near : pl .result < b .len → wi .result ≡ pl .result = λ l. wi .ensures ∙ within-near (pl .result) (b .len) l in
-    let there : pl .result < b .len → seen .call ≡ getD (v .calls) (pl .result) freeCall = λ l. ap (λ i. getD (v .calls) i unread) (near l) ∙ read-any (v .calls) (pl .result) unread freeCall (omega (arith, l, w .beside .long, h)) in
-    turn-doable (boardNow b (v .s) (v .calls)) d e h (w .beside) late seen refl (pl .ensures) there (id .ensures) (t .result) (t .ensures) (c .before .enum-told3 .given .1) (v .inv .2)
+    turn-doable b (v .s) (v .calls) (v .free) (v .soon) (v .dues) (v .held) e (a .pre) (w .beside) late (pl .result) (wi .result) (id .result) (pl .ensures) (wi .ensures) (id .ensures) (t .result) (t .ensures) (c .before .enum-told3 .given .1) (v .inv .2)
 
 mul-calls : tie.Need-mul-calls Inv-loop μ-loop
 mul-calls c =
-    let wi = c .before .before .before .before .before .before .before .before .before .within in
-    let m : wi .result < 64 = rw (wi .ensures) (within-small _ _ (tested-short (c .before .before .before .before .before .before .before .before .before .before .before .before .before .before .before .before .before .before .before .before .before .args .b) (c .before .before .before .before .before .before .before .before .before .before .before .before .before .before .before .before .before .before .before .before .before .pre))) in
-    let w = c .before .before .before .before .before .before .before .before .before .before .before .before .before .before .loop .inv .1 .beside in
-    omega (arith, m, w .long, w .wide, w .broad)
+    let a = c .before .before .before .before .before .before .before .before .before .before .before .before .before .before .before .before .before .before .before .before .before in
+    omega (arith, in-array (a .args .b) _ _ (a .pre) (c .before .before .before .before .before .before .before .before .before .within .ensures))
 
 array-set-from-calls : tie.Need-array-set-from-calls Inv-loop μ-loop
 array-set-from-calls c =
-    let wi = c .before .before .before .before .before .before .before .before .before .within in
-    let m : wi .result < 64 = rw (wi .ensures) (within-small _ _ (tested-short (c .before .before .before .before .before .before .before .before .before .before .before .before .before .before .before .before .before .before .before .before .before .args .b) (c .before .before .before .before .before .before .before .before .before .before .before .before .before .before .before .before .before .before .before .before .before .pre))) in
-    let w = c .before .before .before .before .before .before .before .before .before .before .before .before .before .before .loop .inv .1 .beside in
-    omega (arith, m, w .long, w .wide, w .broad)
+    let a = c .before .before .before .before .before .before .before .before .before .before .before .before .before .before .before .before .before .before .before .before .before in
+    omega (arith, in-array (a .args .b) _ _ (a .pre) (c .before .before .before .before .before .before .before .before .before .within .ensures), c .before .before .before .before .before .before .before .before .before .before .before .before .before .before .loop .inv .1 .beside .long)
 
 flip-requires : tie.Need-flip-requires Inv-loop μ-loop
 flip-requires c κs =
     let a = c .before .before .before .before .before .before .before .before .before .before .before .before .before .before .before .before .before .before .before .before .before in
     let b = a .args .b in
-    let h = tested-short b (a .pre) in
     let v = c .before .before .before .before .before .before .before .before .before .before .before .before .before .before .loop in
     let w = v .inv .1 in
     let ev = c .before .before .before .before .before .before .before .before .before .before .before .before .event-at in
@@ -134,44 +112,30 @@ flip-requires c κs =
     let wi = c .before .before .before .before .before .before .before .before .before .within in
     let id = c .before .before .before .before .before .before .identifier-in in
     let t = c .before .before .before .before .before .turned in
-    let d = notes (v .free) (v .soon) (v .dues) (v .held) in
     let late : e .time ≤ never = omega (arith, ev .ok) in
-    let seen : Seen = record { len = b .len; place = pl .result; identifier = id .result; call = getD (v .calls) (wi .result) unread } in
-    let near : pl .result < b .len → wi .result ≡ pl .result = λ l. wi .ensures ∙ within-near (pl .result) (b .len) l in
-    let there : pl .result < b .len → seen .call ≡ getD (v .calls) (pl .result) freeCall = λ l. ap (λ i. getD (v .calls) i unread) (near l) ∙ read-any (v .calls) (pl .result) unread freeCall (omega (arith, l, w .beside .long, h)) in
     let known = c .before .before .before .enum-told3 .given in
     let x = c .before .acted .result in
-    let l = turn-there (boardNow b (v .s) (v .calls)) d e h (w .beside) late seen refl (pl .ensures) there (id .ensures) (t .result) (t .ensures) (known .1) in
-    rw (near l, read-any (v .calls) (pl .result) unread freeCall (omega (arith, l, w .beside .long, h)))
-    (may-flip (b .len) (v .calls) (v .free) (v .soon) (v .dues) (v .held) h (w .beside) (pl .result) (x .call) l)
+    turn-flips b (v .s) (v .calls) (v .free) (v .soon) (v .dues) (v .held) e (a .pre) (w .beside) late (pl .result) (wi .result) (id .result) (pl .ensures) (wi .ensures) (id .ensures) (t .result) (t .ensures) (known .1) (x .call)
 
 mul-dues : tie.Need-mul-dues Inv-loop μ-loop
 mul-dues c =
-    let wi = c .before .before .before .before .before .before .before .before .before .before .before .within in
-    let m : wi .result < 64 = rw (wi .ensures) (within-small _ _ (tested-short (c .before .before .before .before .before .before .before .before .before .before .before .before .before .before .before .before .before .before .before .before .before .before .before .args .b) (c .before .before .before .before .before .before .before .before .before .before .before .before .before .before .before .before .before .before .before .before .before .before .before .pre))) in
-    let w = c .before .before .before .before .before .before .before .before .before .before .before .before .before .before .before .before .loop .inv .1 .beside in
-    omega (arith, m, w .long, w .wide, w .broad)
+    let a = c .before .before .before .before .before .before .before .before .before .before .before .before .before .before .before .before .before .before .before .before .before .before .before in
+    omega (arith, in-array (a .args .b) _ _ (a .pre) (c .before .before .before .before .before .before .before .before .before .before .before .within .ensures))
 
 array-write-dues : tie.Need-array-write-dues Inv-loop μ-loop
 array-write-dues c =
-    let wi = c .before .before .before .before .before .before .before .before .before .before .before .within in
-    let m : wi .result < 64 = rw (wi .ensures) (within-small _ _ (tested-short (c .before .before .before .before .before .before .before .before .before .before .before .before .before .before .before .before .before .before .before .before .before .before .before .args .b) (c .before .before .before .before .before .before .before .before .before .before .before .before .before .before .before .before .before .before .before .before .before .before .before .pre))) in
-    let w = c .before .before .before .before .before .before .before .before .before .before .before .before .before .before .before .before .loop .inv .1 .beside in
-    omega (arith, m, w .long, w .wide, w .broad)
+    let a = c .before .before .before .before .before .before .before .before .before .before .before .before .before .before .before .before .before .before .before .before .before .before .before in
+    omega (arith, in-array (a .args .b) _ _ (a .pre) (c .before .before .before .before .before .before .before .before .before .before .before .within .ensures), c .before .before .before .before .before .before .before .before .before .before .before .before .before .before .before .before .loop .inv .1 .beside .wide)
 
 mul-held : tie.Need-mul-held Inv-loop μ-loop
 mul-held c =
-    let wi = c .before .before .before .before .before .before .before .before .before .before .before .before .before .within in
-    let m : wi .result < 64 = rw (wi .ensures) (within-small _ _ (tested-short (c .before .before .before .before .before .before .before .before .before .before .before .before .before .before .before .before .before .before .before .before .before .before .before .before .before .args .b) (c .before .before .before .before .before .before .before .before .before .before .before .before .before .before .before .before .before .before .before .before .before .before .before .before .before .pre))) in
-    let w = c .before .before .before .before .before .before .before .before .before .before .before .before .before .before .before .before .before .before .loop .inv .1 .beside in
-    omega (arith, m, w .long, w .wide, w .broad)
+    let a = c .before .before .before .before .before .before .before .before .before .before .before .before .before .before .before .before .before .before .before .before .before .before .before .before .before in
+    omega (arith, in-array (a .args .b) _ _ (a .pre) (c .before .before .before .before .before .before .before .before .before .before .before .before .before .within .ensures))
 
 array-write-held : tie.Need-array-write-held Inv-loop μ-loop
 array-write-held c =
-    let wi = c .before .before .before .before .before .before .before .before .before .before .before .before .before .within in
-    let m : wi .result < 64 = rw (wi .ensures) (within-small _ _ (tested-short (c .before .before .before .before .before .before .before .before .before .before .before .before .before .before .before .before .before .before .before .before .before .before .before .before .before .args .b) (c .before .before .before .before .before .before .before .before .before .before .before .before .before .before .before .before .before .before .before .before .before .before .before .before .before .pre))) in
-    let w = c .before .before .before .before .before .before .before .before .before .before .before .before .before .before .before .before .before .before .loop .inv .1 .beside in
-    omega (arith, m, w .long, w .wide, w .broad)
+    let a = c .before .before .before .before .before .before .before .before .before .before .before .before .before .before .before .before .before .before .before .before .before .before .before .before .before in
+    omega (arith, in-array (a .args .b) _ _ (a .pre) (c .before .before .before .before .before .before .before .before .before .before .before .before .before .within .ensures), c .before .before .before .before .before .before .before .before .before .before .before .before .before .before .before .before .before .before .loop .inv .1 .beside .broad)
 
 add-done-2 : tie.Need-add-done-2 Inv-loop μ-loop
 add-done-2 c = omega (arith, c .before .before .before .before .before .before .before .before .before .before .before .before .before .before .before .before .before .before .before .loop, c .before .before .before .before .before .before .before .before .before .before .before .before .before .before .before .before .before .before .loop-test, c .before .before .before .before .before .before .before .before .before .before .before .before .before .before .before .before .before .before .before .before .before .before .before .before .before .before .good)
@@ -195,7 +159,6 @@ loop-again : tie.Need-loop-again Inv-loop μ-loop
 loop-again c =
     let a = c .before .before .before .before .before .before .before .before .before .before .before .before .before .before .before .before .before in
     let b = a .args .b in
-    let h = tested-short b (a .pre) in
     let v = c .before .before .before .before .before .before .before .before .before .before .loop in
     let w = v .inv .1 in
     let ev = c .before .before .before .before .before .before .before .before .event-at in
@@ -204,28 +167,23 @@ loop-again c =
     let wi = c .before .before .before .before .before .within in
     let id = c .before .before .identifier-in in
     let t = c .before .turned in
-    let d = notes (v .free) (v .soon) (v .dues) (v .held) in
     let late : e .time ≤ never = omega (arith, ev .ok) in
-    let seen : Seen = record { len = b .len; place = pl .result; identifier = id .result; call = getD (v .calls) (wi .result) unread } in
-    let near : pl .result < b .len → wi .result ≡ pl .result = λ l. wi .ensures ∙ within-near (pl .result) (b .len) l in
-    let there : pl .result < b .len → seen .call ≡ getD (v .calls) (pl .result) freeCall = λ l. ap (λ i. getD (v .calls) i unread) (near l) ∙ read-any (v .calls) (pl .result) unread freeCall (omega (arith, l, w .beside .long, h)) in
+    let d = notes (v .free) (v .soon) (v .dues) (v .held) in
     let more : v .k + 1 ≤ length (a .args .events .now) / 24 = omega (arith, v .inv .0, c .before .before .before .before .before .before .before .before .before .loop-test) in
     ⊎-elim
     (λ y.
     let known = y .1 .given in
-    joined b (a .args .events .now) (length (a .args .events .now) / 24) (v .k + 1) (v .calls) (v .s) (v .free) (v .soon) (v .dues) (v .held) (v .done) (v .refused + 1) (y .2) (y .3) (y .4) (y .5) (y .6) (y .7) (y .8) (y .9) (more, playing-refused b (a .args .events .now) (v .calls) (v .s) d (v .done) (v .refused) (v .k) w e (ev .ensures) (known .0 .0) (turn-refused (boardNow b (v .s) (v .calls)) d e h (w .beside) late seen refl (pl .ensures) there (id .ensures) (t .result) (t .ensures) (known .0 .0) (known .1)), v .inv .2))
+    joined b (a .args .events .now) (length (a .args .events .now) / 24) (v .k + 1) (v .calls) (v .s) (v .free) (v .soon) (v .dues) (v .held) (v .done) (v .refused + 1) (y .2) (y .3) (y .4) (y .5) (y .6) (y .7) (y .8) (y .9) (more, playing-refused b (a .args .events .now) (v .calls) (v .s) d (v .done) (v .refused) (v .k) w e (ev .ensures) (known .0 .0) (turn-refused b (v .s) (v .calls) (v .free) (v .soon) (v .dues) (v .held) e (a .pre) (w .beside) late (pl .result) (wi .result) (id .result) (pl .ensures) (wi .ensures) (id .ensures) (t .result) (t .ensures) (known .0 .0) (known .1)), v .inv .2))
     (⊎-elim
     (λ y.
     let known = y .1 .given in
     let soon = beside-soon (b .len) (v .calls) (v .free) (v .soon) (v .dues) (v .held) (w .beside) _ (e .time) (y .3 .ensures) in
-    joined b (a .args .events .now) (length (a .args .events .now) / 24) (v .k + 1) (v .calls) (y .5 .result) (v .free) (y .3 .result) (v .dues) (v .held) (v .done + 1) (v .refused) (y .6) (y .7) (y .8) (y .9) (y .10) (y .11) (y .12) (y .13) (more, playing-far b (a .args .events .now) (v .calls) (v .s) d (v .done) (v .refused) (v .k) w e (ev .ensures) (notes (v .free) (y .3 .result) (v .dues) (v .held)) _ (y .4 .result) soon (rw (y .5 .ensures) (turn-far (boardNow b (v .s) (v .calls)) d e h (w .beside) late seen refl (pl .ensures) there (id .ensures) (t .result) (t .ensures) (y .4 .result) (known .1) (y .4 .ensures))), rw (y .5 .ensures) (v .inv .2)))
+    joined b (a .args .events .now) (length (a .args .events .now) / 24) (v .k + 1) (v .calls) (y .5 .result) (v .free) (y .3 .result) (v .dues) (v .held) (v .done + 1) (v .refused) (y .6) (y .7) (y .8) (y .9) (y .10) (y .11) (y .12) (y .13) (more, playing-far b (a .args .events .now) (v .calls) (v .s) d (v .done) (v .refused) (v .k) w e (ev .ensures) (notes (v .free) (y .3 .result) (v .dues) (v .held)) _ (y .4 .result) soon (rw (y .5 .ensures) (turn-far b (v .s) (v .calls) (v .free) (v .soon) (v .dues) (v .held) e (a .pre) (w .beside) late (pl .result) (wi .result) (id .result) (pl .ensures) (wi .ensures) (id .ensures) (t .result) (t .ensures) (y .4 .result) (known .1) (y .4 .ensures))), rw (y .5 .ensures) (v .inv .2)))
     (λ y.
     let known = y .1 .given in
     let x = y .3 .result in
-    let l = turn-there (boardNow b (v .s) (v .calls)) d e h (w .beside) late seen refl (pl .ensures) there (id .ensures) (t .result) (t .ensures) (known .1) in
-    let i = near l in
-    let kept = beside-next (b .len) (v .calls) (v .free) (v .soon) (v .dues) (v .held) h (w .beside) (wi .result) _ _ _ _ (x .call) (rw i l) (rw (read-any (v .calls) (wi .result) unread freeCall (omega (arith, l, i, w .beside .long, h))) at (y .5 .ensures)) (y .6 .ensures) (y .7 .ensures) (y .8 .ensures) in
-    joined b (a .args .events .now) (length (a .args .events .now) / 24) (v .k + 1) (set (v .calls) (wi .result) (x .call)) (y .9 .result) (y .5 .result) (y .7 .result) (set (v .dues) (wi .result) (y .6 .result)) (set (v .held) (wi .result) (y .8 .result)) (v .done + 1) (v .refused) (y .10) (y .11) (y .12) (y .13) (y .14) (y .15) (y .16) (y .17) (more, playing-done b (a .args .events .now) (v .calls) (v .s) d (v .done) (v .refused) (v .k) w e (ev .ensures) _ (wi .result) _ x kept (rw (y .9 .ensures, i) (turn-done (boardNow b (v .s) (v .calls)) d e h (w .beside) late seen refl (pl .ensures) there (id .ensures) (t .result) (t .ensures) x (known .1) (y .3 .ensures))), rw (y .9 .ensures) (v .inv .2))))
+    let kept = turn-beside b (v .s) (v .calls) (v .free) (v .soon) (v .dues) (v .held) e (a .pre) (w .beside) late (pl .result) (wi .result) (id .result) (pl .ensures) (wi .ensures) (id .ensures) (t .result) (t .ensures) (known .1) _ _ _ _ (x .call) (y .5 .ensures) (y .6 .ensures) (y .7 .ensures) (y .8 .ensures) in
+    joined b (a .args .events .now) (length (a .args .events .now) / 24) (v .k + 1) (set (v .calls) (wi .result) (x .call)) (y .9 .result) (y .5 .result) (y .7 .result) (set (v .dues) (wi .result) (y .6 .result)) (set (v .held) (wi .result) (y .8 .result)) (v .done + 1) (v .refused) (y .10) (y .11) (y .12) (y .13) (y .14) (y .15) (y .16) (y .17) (more, playing-done b (a .args .events .now) (v .calls) (v .s) d (v .done) (v .refused) (v .k) w e (ev .ensures) _ (wi .result) _ x kept (rw (y .9 .ensures) (turn-done b (v .s) (v .calls) (v .free) (v .soon) (v .dues) (v .held) e (a .pre) (w .beside) late (pl .result) (wi .result) (id .result) (pl .ensures) (wi .ensures) (id .ensures) (t .result) (t .ensures) x (known .1) (y .3 .ensures))), rw (y .9 .ensures) (v .inv .2))))
     (c .match .came)
 
 returns : tie.Need-returns Inv-loop μ-loop

@@ -2,7 +2,7 @@
 -- first store on and the whole array again after the loop (`slice/proofs/Cells`); then `summed` is called and the function returns. What is known of the callees is that each meets its contract.
 -- Assumes nothing.
 use mathlib.Core.Path.{_≡_, refl, sym, subst, _∙_, ap}
-use Prim.Native.Nat.{ℕ, _-_, _*_, _≤_, _<_, _^_}
+use Prim.Native.Nat.{ℕ, _+_, _-_, _*_, _≤_, _<_, _^_}
 use native.Mathlib.Omega.{arith}
 use mathlib.Core.Bool.{Bool, true, false, _||_}
 use mathlib.Core.List.{List, [], _∷_}
@@ -28,12 +28,12 @@ use types.Run.{look, look-raw, store, init, forget, stop, hop, fld, from, load, 
 use denote.Exit.{yes}
 use denote.RattleType.{owns}
 use denote.Laws.{Is, shows}
-use denote.Plain.{uint-vals, uint-tells, uint-makes, uint-lawful, bool-lawful}
+use denote.Plain.{uint-vals, uint-tells, uint-makes, uint-lawful}
 use denote.Ref.{RefT}
 use denote.Slice.{sliceVal, ShrSlice, Room, shr-slice-copy}
 use denote.Index.{row, place-is, elem-out, elem-back, elem-put}
 use denote.Signature.{plain}
-use denote.Builtin.{u64, usize, bool}
+use denote.Builtin.{u64, usize}
 use denote.Struct.Laws as LL
 use denote.Triple.Entry.{Vals}
 use denote.Steps.{only, nothing, owned, peeks, heard}
@@ -47,20 +47,20 @@ use Rattle.call.specs.Record.{freeCall}
 use Rattle.slice.proofs.Row.{R, shared}
 use Rattle.slice.proofs.Reading.{slice-at}
 use Rattle.slice.proofs.Cells.{AU, cells, zeros, avals, mach, each-zero, atyped, array-out}
-use Rattle.marks.specs.Marks.{wordOf, setIn, putIn, isMarked, withMark}
+use Rattle.marks.specs.Marks.{wordOf, countIn, putIn, isMarked, withMark}
 use Rattle.marks.proofs.word_of as word-of
 use Rattle.marks.proofs.word_of.Symbol as word-def
-use Rattle.marks.proofs.set_in as set-in
-use Rattle.marks.proofs.set_in.Symbol as set-def
+use Rattle.marks.proofs.count_in as count-in
+use Rattle.marks.proofs.count_in.Symbol as count-def
 use Rattle.marks.proofs.put_in as put-in
 use Rattle.marks.proofs.put_in.Symbol as put-def
 use Rattle.survey.specs.declared.Asked.{Asked}
 use Rattle.survey.specs.declared.Passed.{Passed}
 use Rattle.survey.specs.declared.Noted.{Noted}
-use Rattle.survey.specs.Survey.{passedWith, summedOf, surveyOf}
-use Rattle.survey.proofs.Walk.{seen, set-by, set-full, seen-next, set-open, set-else}
+use Rattle.survey.specs.Survey.{passedWith, anyTwice, summedOf, surveyOf}
+use Rattle.survey.proofs.Walk.{seen, set-by, twice-by, twice-any, twice-few, set-full, seen-next, set-open, set-else, twice-open, twice-else}
 use Rattle.survey.proofs.Values.{IsV, IsQ, vtyped, is-lowered}
-use Rattle.survey.proofs.Callees.{NoteAt, WordOf, SetIn, PutIn, Summed, note-at-of, word-is, set-in-is, put-in-is, summed-is, to-note-at, to-word, to-set-in, to-put-in, to-summed, goes-note-at, goes-word, goes-set-in, goes-put-in, goes-summed}
+use Rattle.survey.proofs.Callees.{NoteAt, WordOf, CountIn, PutIn, Summed, note-at-is, word-is, count-in-is, put-in-is, summed-is, to-note-at, to-word, to-count-in, to-put-in, to-summed, goes-note-at, goes-word, goes-count-in, goes-put-in, goes-summed}
 use Rattle.survey.proofs.Asked as Q
 use Rattle.survey.proofs.Asked.Laws as Q′
 use Rattle.survey.proofs.Passed as N
@@ -119,6 +119,13 @@ module _ {M : Type 1} (𝓤 : URA M) (H : Heap 𝓤) (A : Atoms 𝓤) (W : Given
   abbrev pub M₀ : ℕ → Bool × List ℕ
   M₀ = set-by asked n ys
 
+  -- and how often a mark was set twice
+  abbrev pub T₀ : ℕ → ℕ
+  T₀ = twice-by asked n ys
+
+  pub twice-fits : (i : ℕ) → T₀ i < 2 ^ 64
+  twice-fits i = omega (arith, twice-few asked n ys i, gn)
+
   -- a turn's state: i, and that what is noted is a machine value
   abbrev pub Down : Type 0
   Down = (i : ℕ) × ((i ≤ n) × IsV (S i))
@@ -137,7 +144,7 @@ module _ {M : Type 1} (𝓤 : URA M) (H : Heap 𝓤) (A : Atoms 𝓤) (W : Given
       owned ! usize (Is usize) (uint-makes 𝓤 H A W w64) n (vint w64 n ∷ []) (refl, gn) $ fjoin ! $ move ! (1 ∷ 0 ∷ []) $ fjoin ! $
       owned ! T.the-row (Is T.the-row) (LL.makes T.the-type T′.the-plain 𝓤 H A) t (T′.lowered t ∷ []) g $ move ! (1 ∷ 0 ∷ []) $ done !
 
-  module _ (𝓣 : Tables 𝓤 H) (fm : FmC 𝓤 H (W .laws) (𝓣 .C)) (known-note-at : Triple 𝓤 (𝓣 .C note-at-def.name) (NoteAt 𝓤 H A mem run)) (known-word : Triple 𝓤 (𝓣 .C word-def.name) (WordOf 𝓤 H A mem run)) (known-set : Triple 𝓤 (𝓣 .C set-def.name) (SetIn 𝓤 H A mem run)) (known-put : Triple 𝓤 (𝓣 .C put-def.name) (PutIn 𝓤 H A mem run)) (known-summed : Triple 𝓤 (𝓣 .C summed-def.name) (Summed 𝓤 H A mem run)) (l₀ l₁ l₂ l₃ l₄ l₅ l₆ l₇ l₈ l₉ l₁₀ l₁₁ l₁₂ l₁₃ l₁₄ l₁₅ l₁₆ l₁₇ l₁₈ l₁₉ l₂₀ : ℕ) where
+  module _ (𝓣 : Tables 𝓤 H) (fm : FmC 𝓤 H (W .laws) (𝓣 .C)) (known-note-at : Triple 𝓤 (𝓣 .C note-at-def.name) (NoteAt 𝓤 H A mem run)) (known-word : Triple 𝓤 (𝓣 .C word-def.name) (WordOf 𝓤 H A mem run)) (known-count : Triple 𝓤 (𝓣 .C count-def.name) (CountIn 𝓤 H A mem run)) (known-put : Triple 𝓤 (𝓣 .C put-def.name) (PutIn 𝓤 H A mem run)) (known-summed : Triple 𝓤 (𝓣 .C summed-def.name) (Summed 𝓤 H A mem run)) (l₀ l₁ l₂ l₃ l₄ l₅ l₆ l₇ l₈ l₉ l₁₀ l₁₁ l₁₂ l₁₃ l₁₄ l₁₅ l₁₆ l₁₇ l₁₈ l₁₉ l₂₀ : ℕ) where
     abbrev pub C : Calls 𝓤 H
     C = 𝓣 .C
 
@@ -145,11 +152,11 @@ module _ {M : Type 1} (𝓤 : URA M) (H : Heap 𝓤) (A : Atoms 𝓤) (W : Given
     Λ = 𝓣 .Λ
 
     abbrev pub En : Env 𝓤 H
-    En = (T′.mir, l₀) ∷ (shared, l₁) ∷ (word, l₂) ∷ (Q′.mir, l₃) ∷ (N′.mir, l₄) ∷ (marks-cell, l₅) ∷ (tyBool, l₆) ∷ (word, l₇) ∷ (word, l₈) ∷ (word, l₉) ∷ (word, l₁₀) ∷ (tyBool, l₁₁) ∷ (word, l₁₂) ∷ (tyBool, l₁₃) ∷ (word, l₁₄) ∷ (tyPtr, l₁₅) ∷ (tyPtr, l₁₆) ∷ (word, l₁₇) ∷ (tyPtr, l₁₈) ∷ (tyPtr, l₁₉) ∷ (marks-cell, l₂₀) ∷ []
+    En = (T′.mir, l₀) ∷ (shared, l₁) ∷ (word, l₂) ∷ (Q′.mir, l₃) ∷ (N′.mir, l₄) ∷ (marks-cell, l₅) ∷ (word, l₆) ∷ (word, l₇) ∷ (word, l₈) ∷ (word, l₉) ∷ (word, l₁₀) ∷ (word, l₁₁) ∷ (word, l₁₂) ∷ (tyBool, l₁₃) ∷ (word, l₁₄) ∷ (tyPtr, l₁₅) ∷ (tyPtr, l₁₆) ∷ (word, l₁₇) ∷ (tyPtr, l₁₈) ∷ (tyPtr, l₁₉) ∷ (marks-cell, l₂₀) ∷ []
 
     -- 0 what table owns; 1 the token; 2 the row of the marks; local k at 3 + k, from _6 on at 2 + k; 23 + k: that _k dies
     abbrev pub At : Down → List (Item 𝓤)
-    At i = ‵ Own ∷ ‵ (flft κ q) ∷ ‵ (row u64 fullShare (M₀ (i .0) .1) l₅ 0) ∷ ‵ (froom T′.mir l₀ 0) ∷ ‵ (fat fullShare shared l₁ 0 s) ∷ ‵ (fat fullShare word l₂ 0 (vint w64 n)) ∷ ‵ (fat fullShare Q′.mir l₃ 0 (Q′.lowered asked)) ∷ ‵ (fat fullShare N′.mir l₄ 0 (N′.lowered (S (i .0)))) ∷ ‵ (fat fullShare tyBool l₆ 0 (vbool (M₀ (i .0) .0))) ∷ ‵ (fat fullShare word l₇ 0 (vint w64 (i .0))) ∷ ‵ (froom word l₈ 0) ∷ ‵ (froom word l₉ 0) ∷ ‵ (froom word l₁₀ 0) ∷ ‵ (froom tyBool l₁₁ 0) ∷ ‵ (froom word l₁₂ 0) ∷ ‵ (froom tyBool l₁₃ 0) ∷ ‵ (froom word l₁₄ 0) ∷ ‵ (froom tyPtr l₁₅ 0) ∷ ‵ (froom tyPtr l₁₆ 0) ∷ ‵ (froom word l₁₇ 0) ∷ ‵ (froom tyPtr l₁₈ 0) ∷ ‵ (froom tyPtr l₁₉ 0) ∷ ‵ (froom marks-cell l₂₀ 0) ∷ ‵ (fdies T′.mir l₀) ∷ ‵ (fdies shared l₁) ∷ ‵ (fdies word l₂) ∷ ‵ (fdies Q′.mir l₃) ∷ ‵ (fdies N′.mir l₄) ∷ ‵ (fdies marks-cell l₅) ∷ ‵ (fdies tyBool l₆) ∷ ‵ (fdies word l₇) ∷ ‵ (fdies word l₈) ∷ ‵ (fdies word l₉) ∷ ‵ (fdies word l₁₀) ∷ ‵ (fdies tyBool l₁₁) ∷ ‵ (fdies word l₁₂) ∷ ‵ (fdies tyBool l₁₃) ∷ ‵ (fdies word l₁₄) ∷ ‵ (fdies tyPtr l₁₅) ∷ ‵ (fdies tyPtr l₁₆) ∷ ‵ (fdies word l₁₇) ∷ ‵ (fdies tyPtr l₁₈) ∷ ‵ (fdies tyPtr l₁₉) ∷ ‵ (fdies marks-cell l₂₀) ∷ []
+    At i = ‵ Own ∷ ‵ (flft κ q) ∷ ‵ (row u64 fullShare (M₀ (i .0) .1) l₅ 0) ∷ ‵ (froom T′.mir l₀ 0) ∷ ‵ (fat fullShare shared l₁ 0 s) ∷ ‵ (fat fullShare word l₂ 0 (vint w64 n)) ∷ ‵ (fat fullShare Q′.mir l₃ 0 (Q′.lowered asked)) ∷ ‵ (fat fullShare N′.mir l₄ 0 (N′.lowered (S (i .0)))) ∷ ‵ (fat fullShare word l₆ 0 (vint w64 (T₀ (i .0)))) ∷ ‵ (fat fullShare word l₇ 0 (vint w64 (i .0))) ∷ ‵ (froom word l₈ 0) ∷ ‵ (froom word l₉ 0) ∷ ‵ (froom word l₁₀ 0) ∷ ‵ (froom word l₁₁ 0) ∷ ‵ (froom word l₁₂ 0) ∷ ‵ (froom tyBool l₁₃ 0) ∷ ‵ (froom word l₁₄ 0) ∷ ‵ (froom tyPtr l₁₅ 0) ∷ ‵ (froom tyPtr l₁₆ 0) ∷ ‵ (froom word l₁₇ 0) ∷ ‵ (froom tyPtr l₁₈ 0) ∷ ‵ (froom tyPtr l₁₉ 0) ∷ ‵ (froom marks-cell l₂₀ 0) ∷ ‵ (fdies T′.mir l₀) ∷ ‵ (fdies shared l₁) ∷ ‵ (fdies word l₂) ∷ ‵ (fdies Q′.mir l₃) ∷ ‵ (fdies N′.mir l₄) ∷ ‵ (fdies marks-cell l₅) ∷ ‵ (fdies word l₆) ∷ ‵ (fdies word l₇) ∷ ‵ (fdies word l₈) ∷ ‵ (fdies word l₉) ∷ ‵ (fdies word l₁₀) ∷ ‵ (fdies word l₁₁) ∷ ‵ (fdies word l₁₂) ∷ ‵ (fdies tyBool l₁₃) ∷ ‵ (fdies word l₁₄) ∷ ‵ (fdies tyPtr l₁₅) ∷ ‵ (fdies tyPtr l₁₆) ∷ ‵ (fdies word l₁₇) ∷ ‵ (fdies tyPtr l₁₈) ∷ ‵ (fdies tyPtr l₁₉) ∷ ‵ (fdies marks-cell l₂₀) ∷ []
 
     abbrev pub Turned : Down → Out → SProp 𝓤
     Turned i = afterTurn 𝓤 H (Below 𝓤 H A Lower At i) (afterBlock 𝓤 H (afterSeq 𝓤 H (Wp 𝓤 H C Λ En mir.t-6 (atReturn 𝓤 H En Post)) (atReturn 𝓤 H En Post)))
@@ -167,7 +174,7 @@ module _ {M : Type 1} (𝓤 : URA M) (H : Heap 𝓤) (A : Atoms 𝓤) (W : Given
         calls-at ! fm (NoteAt 𝓤 H A mem run) known-note-at (to-note-at 𝓤 H A mem run κ q b o γ ys k (S (i .0)) asked)
         (and-then ! (load ! (from ! (stop !)) (look ! 4 refl)) (and-then ! (load ! (from ! (stop !)) (look ! 10 refl)) (and-then ! (load ! (from ! (stop !)) (look ! 7 refl)) (and-then ! (load ! (from ! (stop !)) (look ! 6 refl)) (no-more !))))) (λ w.
         use1 W (later (some (λ (t : Passed). ((‵ (flft κ q) ⊛ ‵ ftrue) ⊛ ‵ (N.the-row .own t (w ∷ []))) ⊛ raw (ensured 𝓤 H A note-at.ended (note-at.clauses 𝓤 H A mem run) (κ, tt) (x, (k, (S (i .0), (asked, tt)))) tt t)))) (id⊢ 𝓤 _) $ await ! tt $ pick ! (λ t.
-        split ! $ move ! (1 ∷ []) $ use1 W (raw (fact 𝓤 (t ≡ passedWith asked (S (i .0)) (getD ys k freeCall) k))) (note-at-of 𝓤 H A mem run κ x k (S (i .0)) asked t) $ heard ! (t ≡ passedWith asked (S (i .0)) (getD ys k freeCall) k) (λ e₂.
+        split ! $ move ! (1 ∷ []) $ use1 W (raw (fact 𝓤 (t ≡ passedWith asked (S (i .0)) (getD ys k freeCall) k))) (note-at-is 𝓤 H A mem run κ x k (S (i .0)) asked t) $ heard ! (t ≡ passedWith asked (S (i .0)) (getD ys k freeCall) k) (λ e₂.
         split ! $ move ! (1 ∷ []) $ peeks ! N.the-row (Is N.the-row) (shows 𝓤 H A N.the-row) t (w ∷ []) (λ gt.
         land ! (from ! (stop !)) (store ! 8 refl (vtyped 𝓤 H A W t w gt)) $
         rewrite ! 8 (λ (u : Val). ‵ (fat fullShare N′.mir l₄ 0 u)) (ap only (N′.lowers .val-is t (w ∷ []) gt) ∙ ap N′.lowered (e₂ ∙ next)) refl $ drop ! $ split ! $ move ! (1 ∷ []) $ drop ! $ move ! (1 ∷ []) $
@@ -189,13 +196,13 @@ module _ {M : Type 1} (𝓤 : URA M) (H : Heap 𝓤) (A : Atoms 𝓤) (W : Given
         assigns ! (of-opd ! (load ! (from ! (hop ! (look ! 20 refl) (stop !))) (look-raw ! 0 refl))) (from ! (stop !)) (init ! 21 refl (uint-lawful 𝓤 H A W w64 .typed old _ g₄ .0)) $
         elem-back ! u64 fullShare (M₀ (i .0) .1) (wordOf id) 0 (uint-vals w64 old) l₅ 0 in-marks $ move ! (1 ∷ 2 ∷ []) $
         assigns ! (of-opd ! (load ! (from ! (stop !)) (look ! 19 refl))) (from ! (stop !)) (init ! 12 refl (uint-lawful 𝓤 H A W w64 .typed old _ g₄ .0)) $
-        -- whether it was set
-        use0 W (raw (SetIn 𝓤 H A mem run .pre (to-set-in 𝓤 H A mem run old id))) (goes-set-in 𝓤 H A mem run W old id (g₄ .1) (id-fits (is-lowered t (S k) w (e₂ ∙ next) gt))) $
-        calls-at ! fm (SetIn 𝓤 H A mem run) known-set (to-set-in 𝓤 H A mem run old id) (and-then ! (load ! (from ! (stop !)) (look ! 13 refl)) (and-then ! (load ! (from ! (fld ! refl (stop !))) (look-in ! 8 (sub ! 2 refl (whole !)))) (no-more !))) (λ w₂.
-        use1 W (later (some (λ (t : Bool). (‵ ftrue ⊛ ‵ (bool .own t (w₂ ∷ []))) ⊛ raw (ensured 𝓤 H A set-in.ended (set-in.clauses 𝓤 H A mem run) tt (old, (id, tt)) tt t)))) (id⊢ 𝓤 _) $ await ! tt $ pick ! (λ t₂.
-        split ! $ move ! (1 ∷ []) $ use1 W (raw (fact 𝓤 (t₂ ≡ setIn old id))) (set-in-is 𝓤 H A mem run old id t₂) $ heard ! (t₂ ≡ setIn old id) (λ e₄. split ! $ drop ! $ peeks ! bool (Is bool) (shows 𝓤 H A bool) t₂ (w₂ ∷ []) (λ g₂.
-        land ! (from ! (stop !)) (init ! 14 refl (bool-lawful 𝓤 H A W .typed t₂ _ g₂ .0)) $ rewrite ! 14 (λ (u : Val). ‵ (fat fullShare tyBool l₁₁ 0 u)) (ap only g₂) refl $ drop ! $
-        assigns ! (bin ! (load ! (from ! (stop !)) (look ! 8 refl)) (load ! (from ! (stop !)) (look ! 13 refl)) tt) (from ! (stop !)) (store ! 8 refl (tt, tt)) $
+        -- how often it was set
+        use0 W (raw (CountIn 𝓤 H A mem run .pre (to-count-in 𝓤 H A mem run old id))) (goes-count-in 𝓤 H A mem run W old id (g₄ .1) (id-fits (is-lowered t (S k) w (e₂ ∙ next) gt))) $
+        calls-at ! fm (CountIn 𝓤 H A mem run) known-count (to-count-in 𝓤 H A mem run old id) (and-then ! (load ! (from ! (stop !)) (look ! 13 refl)) (and-then ! (load ! (from ! (fld ! refl (stop !))) (look-in ! 8 (sub ! 2 refl (whole !)))) (no-more !))) (λ w₂.
+        use1 W (later (some (λ (t : ℕ). (‵ ftrue ⊛ ‵ (u64 .own t (w₂ ∷ []))) ⊛ raw (ensured 𝓤 H A count-in.ended (count-in.clauses 𝓤 H A mem run) tt (old, (id, tt)) tt t)))) (id⊢ 𝓤 _) $ await ! tt $ pick ! (λ t₂.
+        split ! $ move ! (1 ∷ []) $ use1 W (raw (fact 𝓤 (t₂ ≡ countIn old id))) (count-in-is 𝓤 H A mem run old id t₂) $ heard ! (t₂ ≡ countIn old id) (λ e₄. split ! $ drop ! $ peeks ! u64 (Is u64) (shows 𝓤 H A u64) t₂ (w₂ ∷ []) (λ g₂.
+        land ! (from ! (stop !)) (init ! 14 refl (uint-lawful 𝓤 H A W w64 .typed t₂ _ g₂ .0)) $ rewrite ! 14 (λ (u : Val). ‵ (fat fullShare word l₁₁ 0 u)) (ap only (g₂ .0) ∙ ap (vint w64) e₄) refl $ drop ! $
+        assigns ! (bin ! (load ! (from ! (stop !)) (look ! 8 refl)) (load ! (from ! (stop !)) (look ! 13 refl)) (record { fits = more-fits (is-true (S k .requested) opened) })) (from ! (stop !)) (store ! 8 refl (tt, record { fits = more-fits (is-true (S k .requested) opened) })) $
         -- the word with it
         use0 W (raw (PutIn 𝓤 H A mem run .pre (to-put-in 𝓤 H A mem run old id))) (goes-put-in 𝓤 H A mem run W old id (g₄ .1) (id-fits (is-lowered t (S k) w (e₂ ∙ next) gt))) $
         calls-at ! fm (PutIn 𝓤 H A mem run) known-put (to-put-in 𝓤 H A mem run old id) (and-then ! (load ! (from ! (stop !)) (look ! 13 refl)) (and-then ! (load ! (from ! (fld ! refl (stop !))) (look-in ! 8 (sub ! 2 refl (whole !)))) (no-more !))) (λ w₃.
@@ -211,11 +218,11 @@ module _ {M : Type 1} (𝓤 : URA M) (H : Heap 𝓤) (A : Atoms 𝓤) (W : Given
         assigns-last ! (of-opd ! (load ! (from ! (stop !)) (look ! 16 refl))) (from ! (hop ! (look ! 23 refl) (stop !))) (store ! 0 refl (tt, record { fits = g₃ .1 })) $
         move ! (1 ∷ []) $ drop ! $ owned ! u64 (Is u64) (uint-makes 𝓤 H A W w64) t₃ (vint w64 t₃ ∷ []) (refl, g₃ .1) $ move ! (1 ∷ 0 ∷ []) $ elem-put ! u64 fullShare (M₀ (i .0) .1) (wordOf id) t₃ (vint w64 t₃ ∷ []) l₅ 0 in-marks $
         move ! (1 ∷ 2 ∷ []) $
-        rewrite ! 8 (λ (t : Bool). ‵ (fat fullShare tyBool l₆ 0 (vbool t))) (ap (λ (t : Bool). M₀ (i .0) .0 || t) e₄ ∙ ap (λ (m : Bool × List ℕ). m .0) (marked (is-true (S k .requested) opened))) refl $
+        rewrite ! 8 (λ (t : ℕ). ‵ (fat fullShare word l₆ 0 (vint w64 t))) (more (is-true (S k .requested) opened)) refl $
         rewrite ! 2 (λ (l : List ℕ). ‵ (row u64 fullShare l l₅ 0)) (ap (set (M₀ (i .0) .1) (wordOf id)) e₅ ∙ ap (λ (m : Bool × List ℕ). m .1) (marked (is-true (S k .requested) opened))) refl $
         forget ! 10 refl $ forget ! 11 refl $ forget ! 12 refl $ forget ! 13 refl $ forget ! 14 refl $ forget ! 15 refl $ forget ! 16 refl $ forget ! 17 refl $ forget ! 18 refl $ forget ! 19 refl $ forget ! 20 refl $ forget ! 21 refl $
         again ! Lower At i (k, (below, is-lowered t (S k) w (e₂ ∙ next) gt)) lower)))))))))))))))
-        (λ none. skips ! $ rewrite ! 8 (λ (t : Bool). ‵ (fat fullShare tyBool l₆ 0 (vbool t))) (ap (λ (m : Bool × List ℕ). m .0) (kept (is-false (S k .requested) none))) refl $
+        (λ none. skips ! $ rewrite ! 8 (λ (t : ℕ). ‵ (fat fullShare word l₆ 0 (vint w64 t))) (as-many (is-false (S k .requested) none)) refl $
         rewrite ! 2 (λ (l : List ℕ). ‵ (row u64 fullShare l l₅ 0)) (ap (λ (m : Bool × List ℕ). m .1) (kept (is-false (S k .requested) none))) refl $ forget ! 10 refl $ forget ! 15 refl $
         again ! Lower At i (k, (below, is-lowered t (S k) w (e₂ ∙ next) gt)) lower)))))
       where
@@ -258,6 +265,15 @@ module _ {M : Type 1} (𝓤 : URA M) (H : Heap 𝓤) (A : Atoms 𝓤) (W : Given
         marked : S k .requested ≡ true → (M₀ (i .0) .0 || isMarked (M₀ (i .0) .1) id, withMark (M₀ (i .0) .1) id) ≡ M₀ k
         marked = set-open asked n ys (i .0) less (i .1 .0) short (S k) refl
 
+        more : S k .requested ≡ true → T₀ (i .0) + countIn old id ≡ T₀ k
+        more = twice-open asked n ys (i .0) less (i .1 .0) short (S k) refl
+
+        more-fits : S k .requested ≡ true → T₀ (i .0) + countIn old id < 2 ^ 64
+        more-fits t = omega (arith, more t, twice-fits k)
+
+        as-many : S k .requested ≡ false → T₀ (i .0) ≡ T₀ k
+        as-many = twice-else asked n ys (i .0) less (i .1 .0) short (S k) refl
+
         kept : S k .requested ≡ false → M₀ (i .0) ≡ M₀ k
         kept = set-else asked n ys (i .0) less (i .1 .0) short (S k) refl
     turn i false e =
@@ -267,15 +283,15 @@ module _ {M : Type 1} (𝓤 : URA M) (H : Heap 𝓤) (A : Atoms 𝓤) (W : Given
         move ! (2 ∷ []) $ use1 W (‵ (fat fullShare marks-cell l₅ 0 (mach w64 8 (M₀ (i .0) .1))) ⊛ ‵ (AU w64 8 .own (M₀ (i .0) .1) (avals w64 8 (M₀ (i .0) .1)))) (array-out w64 8 𝓤 H A W (M₀ (i .0) .1) l₅ (set-full asked n ys (i .0))) $ split ! $
         move ! (1 ∷ []) $ peeks ! (AU w64 8) (Is (AU w64 8)) (shows 𝓤 H A (AU w64 8)) (M₀ (i .0) .1) (avals w64 8 (M₀ (i .0) .1)) (λ gm. drop ! $
         assigns ! (of-opd ! (load ! (from ! (stop !)) (look ! 0 refl))) (from ! (stop !)) (init ! 22 refl (atyped w64 8 𝓤 H A W (M₀ (i .0) .1) (mach w64 8 (M₀ (i .0) .1)) gm)) $
-        use0 W (raw (Summed 𝓤 H A mem run .pre (to-summed 𝓤 H A mem run (S (i .0)) (M₀ (i .0) .0) (M₀ (i .0) .1) asked))) (goes-summed 𝓤 H A mem run W (S (i .0)) (M₀ (i .0) .0) (M₀ (i .0) .1) asked (i .1 .1) gm gq) $
-        calls-at ! fm (Summed 𝓤 H A mem run) known-summed (to-summed 𝓤 H A mem run (S (i .0)) (M₀ (i .0) .0) (M₀ (i .0) .1) asked) (and-then ! (load ! (from ! (stop !)) (look ! 8 refl)) (and-then ! (load ! (from ! (stop !)) (look ! 9 refl)) (and-then ! (load ! (from ! (stop !)) (look ! 23 refl)) (and-then ! (load ! (from ! (stop !)) (look ! 7 refl)) (no-more !))))) (λ w.
-        use1 W (later (some (λ (t : Noted). (‵ ftrue ⊛ ‵ (T.the-row .own t (w ∷ []))) ⊛ raw (ensured 𝓤 H A summed.ended (summed.clauses 𝓤 H A mem run) tt (S (i .0), (M₀ (i .0) .0, (M₀ (i .0) .1, (asked, tt)))) tt t)))) (id⊢ 𝓤 _) $ await ! tt $ pick ! (λ t.
-        split ! $ move ! (1 ∷ []) $ use1 W (raw (fact 𝓤 (t ≡ summedOf (S (i .0)) (M₀ (i .0) .0, M₀ (i .0) .1) asked))) (summed-is 𝓤 H A mem run (S (i .0)) (M₀ (i .0) .0) (M₀ (i .0) .1) asked t) $
-        heard ! (t ≡ summedOf (S (i .0)) (M₀ (i .0) .0, M₀ (i .0) .1) asked) (λ e₂. split ! $ drop ! $ peeks ! T.the-row (Is T.the-row) (shows 𝓤 H A T.the-row) t (w ∷ []) (λ gt.
+        use0 W (raw (Summed 𝓤 H A mem run .pre (to-summed 𝓤 H A mem run (S (i .0)) (T₀ (i .0)) (M₀ (i .0) .1) asked))) (goes-summed 𝓤 H A mem run W (S (i .0)) (T₀ (i .0)) (M₀ (i .0) .1) asked (i .1 .1) (twice-fits (i .0)) gm gq) $
+        calls-at ! fm (Summed 𝓤 H A mem run) known-summed (to-summed 𝓤 H A mem run (S (i .0)) (T₀ (i .0)) (M₀ (i .0) .1) asked) (and-then ! (load ! (from ! (stop !)) (look ! 8 refl)) (and-then ! (load ! (from ! (stop !)) (look ! 9 refl)) (and-then ! (load ! (from ! (stop !)) (look ! 23 refl)) (and-then ! (load ! (from ! (stop !)) (look ! 7 refl)) (no-more !))))) (λ w.
+        use1 W (later (some (λ (t : Noted). (‵ ftrue ⊛ ‵ (T.the-row .own t (w ∷ []))) ⊛ raw (ensured 𝓤 H A summed.ended (summed.clauses 𝓤 H A mem run) tt (S (i .0), (T₀ (i .0), (M₀ (i .0) .1, (asked, tt)))) tt t)))) (id⊢ 𝓤 _) $ await ! tt $ pick ! (λ t.
+        split ! $ move ! (1 ∷ []) $ use1 W (raw (fact 𝓤 (t ≡ summedOf (S (i .0)) (anyTwice (T₀ (i .0)), M₀ (i .0) .1) asked))) (summed-is 𝓤 H A mem run (S (i .0)) (T₀ (i .0)) (M₀ (i .0) .1) asked t) $
+        heard ! (t ≡ summedOf (S (i .0)) (anyTwice (T₀ (i .0)), M₀ (i .0) .1) asked) (λ e₂. split ! $ drop ! $ peeks ! T.the-row (Is T.the-row) (shows 𝓤 H A T.the-row) t (w ∷ []) (λ gt.
         land ! (from ! (stop !)) (init ! 4 refl (LL.lawful T.the-type T′.the-laws 𝓤 H A W .typed t _ gt .0)) $ rewrite ! 4 (λ (u : Val). ‵ (fat fullShare T′.mir l₀ 0 u)) (ap only (T′.lowers .val-is t (w ∷ []) gt)) refl $ drop ! $
         returns ! (look ! 3 refl) $ forget ! 0 refl $ forget ! 3 refl $ forget ! 4 refl $ forget ! 5 refl $ forget ! 6 refl $ forget ! 7 refl $ forget ! 8 refl $ forget ! 9 refl $ forget ! 15 refl $ forget ! 22 refl $
         move ! (3 ∷ 23 ∷ []) $ free1 ! $ move ! (3 ∷ 22 ∷ []) $ free1 ! $ move ! (3 ∷ 21 ∷ []) $ free1 ! $ move ! (3 ∷ 20 ∷ []) $ free1 ! $ move ! (3 ∷ 19 ∷ []) $ free1 ! $ move ! (0 ∷ 18 ∷ []) $ free1 ! $ move ! (2 ∷ 17 ∷ []) $ free1 ! $ move ! (2 ∷ 16 ∷ []) $ free1 ! $ move ! (2 ∷ 15 ∷ []) $ free1 ! $ move ! (2 ∷ 14 ∷ []) $ free1 ! $ move ! (2 ∷ 13 ∷ []) $ free1 ! $ move ! (2 ∷ 12 ∷ []) $ free1 ! $ move ! (2 ∷ 11 ∷ []) $ free1 ! $ move ! (2 ∷ 10 ∷ []) $ free1 ! $ move ! (2 ∷ 9 ∷ []) $ free1 ! $ move ! (2 ∷ 8 ∷ []) $ free1 ! $ move ! (2 ∷ 7 ∷ []) $ free1 ! $ move ! (2 ∷ 6 ∷ []) $ free1 ! $ move ! (2 ∷ 5 ∷ []) $ free1 ! $ move ! (2 ∷ 4 ∷ []) $ free1 ! $ move ! (2 ∷ 3 ∷ []) $ free1 ! $ free0 ! $
-        by ! (exits t (subst (Is T.the-row t) (T′.lowers .val-is t (w ∷ []) gt) gt) (e₂ ∙ ap (λ (j : ℕ). summedOf (S j) (M₀ j) asked) none)))))))
+        by ! (exits t (subst (Is T.the-row t) (T′.lowers .val-is t (w ∷ []) gt) gt) (e₂ ∙ ap (λ (t : Bool). summedOf (S (i .0)) (t, M₀ (i .0) .1) asked) (twice-any asked n ys (i .0)) ∙ ap (λ (j : ℕ). summedOf (S j) (M₀ j) asked) none)))))))
       where
         none : i .0 ≡ 0
         none = omega (arith, nltb→le 0 (i .0) (rw e tt))
