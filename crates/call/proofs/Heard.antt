@@ -228,9 +228,9 @@ heard_later : {l : List Told} {h : History} (ds : List Dli1) → Remembers l h �
     → Heard l (latest_first ds) (after_all h ds) no_notice no_number
 unfolding latest_first after_all all any
 heard_later [] w t k = heard_none w
-heard_later (d ∷ ds) w t k =
+heard_later {l = l} {h = h} (d ∷ ds) w t k =
     let a = later_none w d t (and_l (later_holds d) (all later_holds ds) k) in
-    heard_then (one_only d) a (heard_later ds a.remembers tt (and_r (later_holds d) (all later_holds ds) k))
+    heard_then (one_only d) a (heard_later {l = dli1 d ∷ l} {h = after_dli1 h d} ds a.remembers tt (and_r (later_holds d) (all later_holds ds) k))
 
 first_ranged : (d : Dli1) → T (first_holds d) → Ranged d
 first_ranged d t =

@@ -9,14 +9,14 @@ use timed::Pending;
 
 // What goes out beside the table.
 #[repr(C)]
-#[derive(Drop)]
+#[derive(Clone, Copy)]
 pub struct Reply {
     pub answer: Answer,
     pub station: Station,
 }
 
 // What becomes of the records: the one at `place` becomes `call`, or none changes where `count` is 0.
-#[derive(Drop)]
+#[derive(Clone, Copy)]
 pub struct Change {
     pub place: usize,
     pub count: usize,
@@ -24,7 +24,7 @@ pub struct Change {
 }
 
 // What goes out, and what becomes of the records.
-#[derive(Drop)]
+#[derive(Clone, Copy)]
 pub struct Decision {
     pub change: Change,
     pub reply: Reply,

@@ -2,7 +2,7 @@
 
 // One event; a field that its kind doesn't use is 0.
 #[repr(C)]
-#[derive(Drop)]
+#[derive(Clone, Copy)]
 pub struct Event {
     pub kind: u8,
     pub call: u8,

@@ -57,6 +57,8 @@ not_again k i h e =
 
 apart_from : (k i j : ℕ) → i < j → j < 65535 → candidate k i ≡ candidate k j → ⊥
 unfolding candidate
+apart_from k zero zero h l e = elim h [ ]
+apart_from k (suc i) zero h l e = elim h [ ]
 apart_from k zero (suc j) h l e = not_again k j (omega arith) (sym e)
 apart_from k (suc i) (suc j) h l e = apart_from (after k) i j (le_of_suc-le-suc h) (omega arith) e
 

@@ -7,7 +7,7 @@ use remote::Pendings;
 use timed::Pending;
 
 // What the marks tell. `clash`: one was set twice; `marked`: that of the identifier that was asked for is set.
-#[derive(Drop)]
+#[derive(Clone, Copy)]
 pub struct Marked {
     pub clash: bool,
     pub marked: bool,

@@ -4,7 +4,7 @@ ghost use Rattle.notice.specs.Notice.{strictest_with, gives_notice, notice_of, r
 
 // A divertingLegInformation1: the reason, the option and the nominated number.
 #[repr(C)]
-#[derive(Drop)]
+#[derive(Clone, Copy)]
 pub struct Dli1 {
     pub reason: u8,
     pub option: u8,
@@ -14,7 +14,7 @@ pub struct Dli1 {
 // All 0 before the first DLI1 of the call. `seen`, `forbidden` and `shown` are marks, 0 or 1; `shown` is of what was shown since
 // the last cfnr DLI1.
 #[repr(C)]
-#[derive(Drop)]
+#[derive(Clone, Copy)]
 pub struct History {
     pub seen: u8,
     pub strictest: u8,
@@ -25,7 +25,7 @@ pub struct History {
 
 // The history after a DLI1, and the notice that it gives; 255 where it gives none, since 0 is a reason.
 #[repr(C)]
-#[derive(Drop)]
+#[derive(Clone, Copy)]
 pub struct Noticed {
     pub notice: u8,
     pub history: History,
@@ -33,7 +33,7 @@ pub struct Noticed {
 
 // The history after a DLI3, and the number that it shows; 0 where it shows none.
 #[repr(C)]
-#[derive(Drop)]
+#[derive(Clone, Copy)]
 pub struct Shown {
     pub number: u16,
     pub history: History,

@@ -6,13 +6,13 @@ ghost use Rattle.packed.specs.Messages.{head_word, rest_word, words_of, message_
 use call::{Call, Effect, Message, Sent};
 
 // A message as it lies in memory, eight bytes a word.
-#[derive(Drop)]
+#[derive(Clone, Copy)]
 pub struct Words {
     pub head: u64,
     pub rest: u64,
 }
 
-#[derive(Drop)]
+#[derive(Clone, Copy)]
 pub struct Packed {
     pub call: Call,
     pub first: Words,

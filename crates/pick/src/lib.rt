@@ -10,14 +10,14 @@ use survey::{Asked, Noted};
 
 // What comes in beside the table.
 #[repr(C)]
-#[derive(Drop)]
+#[derive(Clone, Copy)]
 pub struct Input {
     pub station: Station,
     pub event: Event,
 }
 
 // What the open identifiers tell: that no two are the same, and the one that a request would take.
-#[derive(Drop)]
+#[derive(Clone, Copy)]
 pub struct Pick {
     pub apart: bool,
     pub identifier: u16,

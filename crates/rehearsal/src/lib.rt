@@ -1,7 +1,7 @@
 // Who will ring tonight: a panel of a plan, and the answer.
 
 // A panel: three destinations, 0 for none, and two marks, 0 or 1.
-#[derive(Drop)]
+#[derive(Clone, Copy)]
 pub struct Panel {
     pub cfu: u16,
     pub cfb: u16,
@@ -13,7 +13,7 @@ pub struct Panel {
 // The answer. `code` is 0, or 3 where the plan is refused; `ending` is 1 rings, 2 busy, 3 limit; where it is refused both
 // ending and last panel are 0 and the counter is 255, since 0 is a counter.
 #[repr(C)]
-#[derive(Drop)]
+#[derive(Clone, Copy)]
 pub struct Rehearsed {
     pub code: u8,
     pub ending: u8,

@@ -7,7 +7,7 @@ use timed::Pending;
 
 // The request of each sort, in the order of the sorts and of their timers T2 to T5.
 #[repr(C)]
-#[derive(Drop)]
+#[derive(Clone, Copy)]
 pub struct Pendings {
     pub activation: Pending,
     pub deactivation: Pending,
@@ -17,7 +17,7 @@ pub struct Pendings {
 
 // The destination kept for each type; 0 where none stands.
 #[repr(C)]
-#[derive(Drop)]
+#[derive(Clone, Copy)]
 pub struct Kept {
     pub cfu: u16,
     pub cfb: u16,
@@ -26,7 +26,7 @@ pub struct Kept {
 
 // `enabled`: remote activation; `allowed`: diversion to us.
 #[repr(C)]
-#[derive(Drop)]
+#[derive(Clone, Copy)]
 pub struct Remote {
     pub pending: Pendings,
     pub kept: Kept,
@@ -36,7 +36,7 @@ pub struct Remote {
 
 // What an event leaves here and what its answer holds: at most one message.
 #[repr(C)]
-#[derive(Drop)]
+#[derive(Clone, Copy)]
 pub struct Moved {
     pub remote: Remote,
     pub message: Message,

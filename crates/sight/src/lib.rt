@@ -7,7 +7,7 @@ use event::Event;
 
 // What an event needs of a table: its length, the place where the event acts (from the length on where there is none), the
 // identifier that a request would take, and the record at the place.
-#[derive(Drop)]
+#[derive(Clone, Copy)]
 pub struct Seen {
     pub len: usize,
     pub place: usize,

@@ -4,7 +4,7 @@ use remote::Remote;
 
 // What the station keeps; its table of calls is lent by the host.
 #[repr(C)]
-#[derive(Drop)]
+#[derive(Clone, Copy)]
 pub struct Station {
     pub last: u64,
     pub next: u16,
@@ -15,7 +15,7 @@ pub struct Station {
 // The answer to one event. None is 255 for the call and the notice, 65536 for the identifier, 0 for the number and the
 // counter: 0 is a call, a reason and an identifier, but neither a party number nor a counter that is sent.
 #[repr(C)]
-#[derive(Drop)]
+#[derive(Clone, Copy)]
 pub struct Answer {
     pub code: u8,
     pub call: u8,
@@ -28,7 +28,7 @@ pub struct Answer {
 
 // The answer to a wish for a fresh station: 3 where the limit is outside 1 to 15 or a mark is neither 0 nor 1; then no station is made (all 0).
 #[repr(C)]
-#[derive(Drop)]
+#[derive(Clone, Copy)]
 pub struct Made {
     pub code: u8,
     pub station: Station,

@@ -11,7 +11,7 @@ use timed::Pending;
 
 // What is asked beside the table: the station's last time, the time below which an open request's start is due, the identifier that a request would
 // take first, and the requests that the station itself holds.
-#[derive(Drop)]
+#[derive(Clone, Copy)]
 pub struct Asked {
     pub last: u64,
     pub by: u64,
@@ -20,7 +20,7 @@ pub struct Asked {
 }
 
 // What is noted of the records from a place on; whether a request is open, and its identifier, of the record at that place alone.
-#[derive(Drop)]
+#[derive(Clone, Copy)]
 struct Passed {
     sound: bool,
     requested: bool,
@@ -30,7 +30,7 @@ struct Passed {
 }
 
 // What the walk tells: `clash` says that two open requests have one mark, `marked` that the identifier that a request would take first has one.
-#[derive(Drop)]
+#[derive(Clone, Copy)]
 pub struct Noted {
     pub sound: bool,
     pub clash: bool,

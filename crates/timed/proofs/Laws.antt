@@ -58,6 +58,8 @@ ends_only length time p pass w n = absurd (T_not (waits p) n w)
 pub ends_indeed : EndsIndeed
 ends_indeed length time p (result _) w by_result = rw (is_true (waits p) w, eq-eqb p.identifier p.identifier refl)
 ends_indeed length time p (reject _) w by_reject = rw (is_true (waits p) w, eq-eqb p.identifier p.identifier refl)
+ends_indeed length time p (ask _) w e = elim e [ ]
+ends_indeed length time p pass w e = elim e [ ]
 ends_indeed length time p tick w (by_expiry d) = rw (is_true (due length time p) d)
 
 -- of a decision between none and what was, one that waits was not ended

@@ -4,7 +4,7 @@ ghost use Rattle.timed.specs.Timed.{idle, asked, due, unused, holds};
 
 // A request that waits: `wait` is 1, with its identifier and the time at which it was asked. Without one all is 0.
 #[repr(C)]
-#[derive(Drop)]
+#[derive(Clone, Copy)]
 pub struct Pending {
     pub start: u64,
     pub identifier: u16,

@@ -9,7 +9,7 @@ use station::Station;
 
 // What becomes of an event: refused, by its number; done on what the station holds, as `follow::step` says (kinds 16 to 31,
 // and a clock event with no T1 request due); done on the record at its place, as `deed::acted` says.
-#[derive(Drop)]
+#[derive(Clone, Copy)]
 pub enum Turn {
     Refused(u8),
     Far,

@@ -102,7 +102,7 @@ take_each (suc n) (Forall₂.cons p ps) = Forall₂.cons p (take_each n ps)
 all_stricter : {h h' : History} {l l' : List Dli1} → StricterHistory h h' → Forall₂ StricterDli1 l l' → StricterHistory (after_all h l) (after_all h' l')
 unfolding after_all
 all_stricter q Forall₂.nil = q
-all_stricter q (Forall₂.cons p ps) = all_stricter (dli1_stricter q p) ps
+all_stricter {h = h} q (Forall₂.cons {a = a} p ps) = all_stricter {h = after_dli1 h a} (dli1_stricter q p) ps
 
 pub hands_over_stricter : HandsOverStricter
 unfolding take_all

@@ -3,7 +3,7 @@ use notice::Dli1;
 
 // `count` DLI1s wait behind the first, in the first places of `later`; each other place is all 0.
 #[repr(C)]
-#[derive(Drop)]
+#[derive(Clone, Copy)]
 pub struct Waits {
     pub first: Dli1,
     pub count: u8,

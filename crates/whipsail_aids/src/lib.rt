@@ -12,7 +12,7 @@ use station::{Made, Station};
 
 // The event at a place among bytes; `whole` is 1, or 0 where fewer than 24 bytes are left: then no event is read (all 0).
 #[repr(C)]
-#[derive(Drop)]
+#[derive(Clone, Copy)]
 pub struct Read {
     pub whole: u8,
     pub event: Event,
