@@ -8,7 +8,7 @@ use Rattle.marks.proofs.told.Goals as goal
 pub returns-then-four_idle : goal.returns-then-four_idle
 returns-then-four_idle c =
     let a = c.args in
-    rw (c.is_marked-marked.ensures, four_idle_lem (a.clash, a.t2) a.p (sym c.four_idle.ensures ∙ c.if-four_idle.true))
+    rw (c.is_marked-marked.ensures, four_idle_lem (a.clash, a.marks) a.p (sym c.four_idle.ensures ∙ c.if-four_idle.true))
 
 -- where one does, each sets its mark
 pub returns : goal.returns
