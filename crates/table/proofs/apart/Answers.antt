@@ -51,7 +51,7 @@ returns-then-stands_from c =
     let long : length l ≡ 68 = omega arith in
     let k = c.loop-i.i - 1 in
     let h : k < length l = omega (arith, c.loop-i.invariant.0) in
-    sym (apart_drop l k (apart_not l k h c.if-x-eq0.false (sym c.Stands-from.ensures ∙ c.if-stands_from.true)))
+    sym (apart_drop l k (apart_not l k h c.if-x-eq0.false (sym c.stands_from.ensures ∙ c.if-stands_from.true)))
 
 -- it was, by another number
 pub loop-i-preserved : goal.loop-i-preserved
@@ -62,5 +62,5 @@ loop-i-preserved c =
     let k = v.i - 1 in
     let e : k + 1 ≡ v.i = omega arith in
     let h : k < length l = omega (arith, v.invariant.0) in
-    let none = sym c.Stands-from.ensures ∙ c.if-stands_from.false in
+    let none = sym c.stands_from.ensures ∙ c.if-stands_from.false in
     (omega arith, v.invariant.1, sym (apart_more l k h c.if-x-eq0.false none) ∙ rw e v.invariant.2, marked_at v.marks l k h (is_marked_lem v.marks (get_or l k 0) c.if-marks-m-eq0.false) (rw e v.invariant.3))

@@ -24,7 +24,7 @@ pub returns-then-not-sound_call : goal.returns-then-not-sound_call
 returns-then-not-sound_call c =
     let a = c.args in
     let long : length a.calls ≡ 64 = search rules in
-    sym (rw (all_off (sound_call a.last) a.calls c.loop-i.i a.len _ (omega arith) (omega arith) (denied _ _ c.sound_call.ensures c.if-not-sound_call.true)))
+    sym (rw (all_off (sound_call a.last) a.calls c.loop-i.i a.len _ (omega arith) (omega arith) ((sym c.sound_call.ensures ∙ c.if-not-sound_call.true))))
 
 pub loop-i-preserved : goal.loop-i-preserved
 loop-i-preserved c =
@@ -33,7 +33,7 @@ loop-i-preserved c =
     let long : length a.calls ≡ 64 = search rules in (
       omega arith,
       simp length-set v.invariant.1,
-      all_on (sound_call a.last) a.calls v.i _ (omega arith) v.invariant.2 (upheld _ _ c.sound_call.ensures c.if-not-sound_call.false),
+      all_on (sound_call a.last) a.calls v.i _ (omega arith) v.invariant.2 ((sym c.sound_call.ensures ∙ c.if-not-sound_call.false)),
       rw (v.invariant.3, c.held_by-id.ensures, read_any a.calls v.i unread free_call (omega arith)) (column_next a.calls v.i (omega arith) (omega arith)),
     )
 
