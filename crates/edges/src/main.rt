@@ -4,6 +4,8 @@
 // then its events as host/model's `events encode` writes them (`events decode` reads them back). Their lines in the file stdout are
 // those that host/model's `modelrun` prints for the events of each group alone; those of `records`, `tables` and `stations` are the lines of
 // that model's `step` on the same records and stations.
+#![tactic(auto)]
+
 mod events;
 mod groups;
 mod records;
@@ -11,20 +13,20 @@ mod show;
 mod stations;
 mod tables;
 
-fn main() {
-    groups::from_input();
-    records::all_used();
-    records::wrapped();
-    tables::lengths();
-    tables::limits();
-    tables::short_form();
-    tables::zeros();
-    tables::fresh_codes();
-    tables::damaged_outgoing();
-    tables::damaged_incoming();
-    tables::waiting_ones();
-    tables::sound();
-    stations::marks();
-    stations::pending_ones();
-    stations::shared();
+fn main(rt: HostRuntime) {
+    groups::from_input(rt);
+    records::all_used(rt);
+    records::wrapped(rt);
+    tables::lengths(rt);
+    tables::limits(rt);
+    tables::short_form(rt);
+    tables::zeros(rt);
+    tables::fresh_codes(rt);
+    tables::damaged_outgoing(rt);
+    tables::damaged_incoming(rt);
+    tables::waiting_ones(rt);
+    tables::sound(rt);
+    stations::marks(rt);
+    stations::pending_ones(rt);
+    stations::shared(rt);
 }

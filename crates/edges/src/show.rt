@@ -3,24 +3,24 @@ ghost use Rattle.std.specs.Prelude.{◌≡◌, ◌+◌, ◌^◌, ◌<◌, ◌≤
 
 use board::Board;
 use event::Event;
-use libc::STDOUT_FILENO;
 
 // The board and the position of its next line.
-#[derive(Drop)]
+#[derive(Clone, Copy)]
 pub struct Show {
     pub board: Board,
     pub position: u32,
 }
 
 // The board after an event, and how many bytes its line has.
-#[derive(Drop)]
+#[derive(Clone, Copy)]
 struct Lined {
     board: Board,
     written: usize,
 }
 
-pub fn say(label: &[u8]) {
-    io::write_all(STDOUT_FILENO, label);
+// What could not be written is missed where the output is compared.
+pub fn say(rt: HostRuntime, label: &[u8]) {
+    let _ = rt.write_all(label);
 }
 
 // 64 free records and a fresh station of limit 15.
@@ -96,15 +96,15 @@ fn one_line(board: Board, position: u64, e: Event, line: &mut [u8]) -> Lined
 }
 
 // One event and its line.
-pub fn on(s: Show, e: Event) -> Show {
+pub fn on(rt: HostRuntime, s: Show, e: Event) -> Show {
     let board = s.board;
     let mut line = [0u8; 96];
     let x = one_line(board, s.position as u64, e, &mut line);
-    io::write_all(STDOUT_FILENO, &line[..x.written]);
+    say(rt, &line[..x.written]);
     let next = x.board;
     Show {
         board: next,
-        position: std::num::wrapping_add_u32(s.position, 1),
+        position: s.position.wrapping_add(1),
     }
 }
 

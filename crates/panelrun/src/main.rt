@@ -1,14 +1,17 @@
 // The panel printout: reads event records from standard input and prints a line each.
+#![tactic(auto)]
+
 ghost use Rattle.std.specs.Prelude.{◌≡◌, true, ◌+◌, ◌^◌, ◌≤◌, ◌<◌, length};
 ghost use Rattle.board.specs.Board.{sound_board};
 ghost use Rattle.panelrun.specs.Between.{Between};
 
 use board::Board;
-use libc::{STDIN_FILENO, STDOUT_FILENO};
+use std::io;
+use std::io::Read;
 
 // What goes from turn to turn. The bytes held are those of a record that the next piece completes; `state` is 0 while there is
 // more to read, 1 at the end of the input and 2 after a failure.
-#[derive(Drop)]
+#[derive(Clone, Copy)]
 pub struct Run {
     board: Board,
     position: u64,
@@ -17,10 +20,17 @@ pub struct Run {
 }
 
 // Where a piece of input ends in its buffer, or that its read failed.
-#[derive(Drop)]
+#[derive(Clone, Copy)]
 pub struct Piece {
     failed: bool,
     end: usize,
+}
+
+// Room for a piece of input.
+fn input_buffer() -> [u8; 65536]
+    ensures { 65536 ≡ length result }
+{
+    [0; 65536]
 }
 
 // Room for the lines of a whole piece of input: 96 bytes for each of 2,730 records.
@@ -30,28 +40,64 @@ fn lines_buffer() -> [u8; 262144]
     [0; 262144]
 }
 
+// A line on standard error: what failed, and the system's words for it. The number that the library puts behind them stays away,
+// but where there is no memory for a copy.
+fn tell(rt: HostRuntime, what: &str, error: io::Error) {
+    let _ = match format!(in rt.alloc(); "{error}") {
+        Ok(text) => match text.split_once(" (os error ") {
+            Some((words, _)) => eprintln!(rt; "{what}: {words}"),
+            None => eprintln!(rt; "{what}: {text}"),
+        },
+        Err(_) => eprintln!(rt; "{what}: {error}"),
+    };
+}
+
 // Reads a piece behind the bytes that are held.
-fn read_behind(input: &mut [u8], held: usize) -> Piece
+fn read_behind(rt: HostRuntime, input: &mut [u8], held: usize) -> Piece
     requires { held ≤ length input.old }
     ensures { (held ≤ result.end) × (result.end ≤ length input.old) }
 {
-    let got = libc::read(STDIN_FILENO, &mut input[held..]);
-    let count = io::count(got, &input[held..]);
-    Piece {
-        failed: got < 0,
-        end: held + count,
+    match rt.stdin().read(&mut input[held..]) {
+        Ok(count) => Piece {
+            failed: false,
+            end: held + count,
+        },
+        Err(error) => {
+            tell(rt, "panelrun: reading standard input", error);
+            Piece {
+                failed: true,
+                end: held,
+            }
+        }
+    }
+}
+
+// Whether the lines were written; that they were not is told.
+fn print(rt: HostRuntime, lines: &[u8]) -> bool {
+    match rt.write_all(lines) {
+        Ok(()) => true,
+        Err(error) => {
+            tell(rt, "panelrun: writing standard output", error);
+            false
+        }
     }
 }
 
 // Reads a piece, plays it and writes its lines.
-fn turn(board: Board, position: u64, held: usize, input: &mut [u8], output: &mut [u8]) -> Run
+fn turn(
+    rt: HostRuntime,
+    board: Board,
+    position: u64,
+    held: usize,
+    input: &mut [u8],
+    output: &mut [u8],
+) -> Run
     requires { (sound_board board ≡ true) × (position + 2730 < 2 ^ 64) × (held < 24) × (length input.old ≡ 65536) × (length output.old ≡ 262144) }
     ensures { Between position result }
 {
-    let piece = read_behind(input, held);
+    let piece = read_behind(rt, input, held);
     let end = piece.end;
     if piece.failed {
-        os::fail(b"panelrun: reading standard input");
         return Run {
             board: board,
             position: position,
@@ -70,7 +116,7 @@ fn turn(board: Board, position: u64, held: usize, input: &mut [u8], output: &mut
     let played = panel::play(board, position, &input[..end], output);
     let next = played.board;
     let rest = end - played.used;
-    if io::write_all(STDOUT_FILENO, &output[..played.written]) {
+    if print(rt, &output[..played.written]) {
         ground::carry(input, played.used, rest);
         return Run {
             board: next,
@@ -79,7 +125,6 @@ fn turn(board: Board, position: u64, held: usize, input: &mut [u8], output: &mut
             state: 0,
         };
     }
-    os::fail(b"panelrun: writing standard output");
     Run {
         board: next,
         position: played.position,
@@ -89,30 +134,28 @@ fn turn(board: Board, position: u64, held: usize, input: &mut [u8], output: &mut
 }
 
 // The line of a cut last record.
-fn print_cut(count: usize) {
+fn print_cut(rt: HostRuntime, count: usize) {
     let mut line = [0u8; 32];
     let n = printout::write_cut(&mut line, 0, count);
-    if !io::write_all(STDOUT_FILENO, &line[..n]) {
-        os::fail(b"panelrun: writing standard output");
-    }
+    print(rt, &line[..n]);
 }
 
-fn main() {
+fn main(rt: HostRuntime) {
     let mut board = board::start();
     let mut position: u64 = 0;
     let mut held: usize = 0;
-    let mut input = io::large_buffer();
+    let mut input = input_buffer();
     let mut output = lines_buffer();
     // A proved loop ends, and nothing says that the input does: more turns than any run takes.
     let mut turns: u64 = 4503599627370496;
     while turns > 0 {
-        let t = turn(board, position, held, &mut input, &mut output);
+        let t = turn(rt, board, position, held, &mut input, &mut output);
         board = t.board;
         position = t.position;
         held = t.held;
         if t.state == 1 {
             if held > 0 {
-                print_cut(held);
+                print_cut(rt, held);
             }
             return;
         }
