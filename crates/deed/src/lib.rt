@@ -1,7 +1,7 @@
 // What an event that is done on a record does to it: the rule of its kind.
 ghost use Rattle.std.specs.Prelude.{◌≡◌};
 ghost use Rattle.packed.specs.Messages.{effect_of};
-ghost use Rattle.deed.specs.Deed.{acted_of, doable};
+ghost use Rattle.deed.specs.Deed.{acted_of, Doable};
 
 use call::Effect;
 use event::Event;
@@ -10,7 +10,7 @@ use sight::Seen;
 
 // The rule of the event's kind. Each arm packs what it hands back, before the arms are joined.
 fn packed_by_kind(e: Event, seen: Seen) -> Packed
-    requires { doable e seen }
+    requires { Doable e seen }
     ensures { effect_of result ≡ acted_of e seen }
 {
     let kind = e.kind;
@@ -85,7 +85,7 @@ fn packed_by_kind(e: Event, seen: Seen) -> Packed
 
 // What an event that is done on a record does to it.
 pub fn acted(e: Event, seen: Seen) -> Effect
-    requires { doable e seen }
+    requires { Doable e seen }
     ensures { result ≡ acted_of e seen }
 {
     let p = packed_by_kind(e, seen);

@@ -1,5 +1,5 @@
 -- What was noted and picked of a lent table decides the event as the definition does, on every table. Assumes nothing.
-use Prim.Native.Nat.{ℕ, ◌<◌}
+use Prim.Native.Nat.{ℕ, ◌<◌, ◌≤◌}
 use mathlib.Core.Bool.{Bool, true, false, ◌&&◌, ◌||◌, not}
 use mathlib.Core.List.{List}
 use mathlib.Core.Path.{◌≡◌, refl, sym, ap, ◌∙◌}
@@ -27,7 +27,7 @@ use Rattle.station.specs.Station.{station_ok}
 use Rattle.station.specs.Table.{at, place, sound, sound_table, open_identifiers, identifier_for}
 use Rattle.bounds.specs.Bounds.{in_bounds}
 use Rattle.slice.specs.Table.{fit_of}
-use Rattle.slice.proofs.Bounds.{fit_short, fit_long}
+use Rattle.slice.proofs.Bounds.{fit_short, fit_long, fit_le}
 use Rattle.draw.specs.Column.{over, joined_of, identifier_in, frees, column_of}
 use Rattle.draw.proofs.Held.{requests_over}
 use Rattle.draw.proofs.Four.{joined_free}
@@ -82,6 +82,10 @@ module _ (s : Station) (calls : List Call) (e : Event) (v : Seen) (z : Sees s ca
       turned : (b : Bool) → (when b then turn_of s e (seen_in s calls e) else Refused 1) ≡ (when not b then Refused 1 else turn_of s e (seen_in s calls e))
       turned true = refl
       turned false = refl
+
+-- ---- as many records as are worked on are in the table
+pub short : (len n : ℕ) → n ≡ fit_of len → (n ≤ len) × (n ≤ 64)
+short len n e = rw e (fit_le len)
 
 -- ---- what the code of `picked` found comes to, by its test t
 module _ (input : Input) (v : Noted) (n : ℕ) (ys : List Call) (t : Bool) (test : t ≡ wants_column v input) where
