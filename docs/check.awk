@@ -7,7 +7,7 @@ END {
     # the kit's libraries; a word of Rust, one that tells a form, and files that a reader has or writes
     split("libc io os std check bytes", kit, " ")
     for (i in kit) of_kit[kit[i]] = 1
-    split("Option fOf Cargo.toml my.txt 01-scope.md", word, " ")
+    split("Option f_of Cargo.toml my.txt 01-scope.md", word, " ")
     for (i in word) known[word[i]] = 1
     for (i = 1; i <= NR; i++) learn(paths[i])
     for (i = 1; i <= NR; i++) if (paths[i] ~ /^docs\/requests\/.*\.md$/) newest = paths[i]
@@ -22,6 +22,7 @@ END {
 }
 
 function is_document(path) {
+    if (path == "docs/PORT.md") return 0
     return path ~ /^(README|docs\/[^\/]*|host\/README|bench\/README)\.md$/ || holds_no_words(path)
 }
 
@@ -206,7 +207,7 @@ function hold_word(path, where, span) {
 
 function is_test(name) { return (("host/model", name) in declared) }
 
-# Paths from the root, in any text.
+# Paths from the root, in any text. rt makes out/ in a crate.
 function hold_paths(where, line,    n, part, i, word) {
     gsub(/crates\/(crate|NAME)(\/[A-Za-z\/.-]*)?/, "", line) # tells the form of a path
     gsub(/[^A-Za-z0-9_.\/*-]/, " ", line)
@@ -214,7 +215,7 @@ function hold_paths(where, line,    n, part, i, word) {
     for (i = 1; i <= n; i++) {
         word = part[i]
         sub(/[.\/]*$/, "", word)
-        if (word !~ /^(docs|host|bench|crates|\.ci)\//) continue
+        if (word !~ /^(docs|host|bench|crates|tools|\.ci)\// || word ~ /^crates\/[^\/]*\/out(\/|$)/) continue
         held++
         if (!is_there(word)) broke(where, "no " word)
     }
@@ -223,7 +224,7 @@ function hold_paths(where, line,    n, part, i, word) {
 # In a span also from crates/, from the document's folder or one in it; target/ is made, and each crate has specs/.
 function hold_relative(path, where, span,    folder) {
     sub(/\/$/, "", span)
-    if (span ~ /^((docs|host|bench|crates|target|\.ci)(\/.*)?|specs|proofs|src)$/) return
+    if (span ~ /^((docs|host|bench|crates|tools|target|\.ci)(\/.*)?|specs|proofs|src)$/) return
     held++
     folder = path
     sub(/[^\/]*$/, "", folder)

@@ -1,4 +1,4 @@
-//! The repository's programs, run as a script runs them; `rt check` builds them.
+//! The repository's programs, run as a script runs them; `rt run` builds them.
 
 use crate::engine::host;
 use std::fs::{self, File};
@@ -12,10 +12,10 @@ use std::thread;
 /// What a program wrote on standard output and on standard error.
 pub type Said = (String, String);
 
-/// A program of `target/bin`, started by `host/c/run`.
+/// A program of `crates/NAME/out`, started by `host/c/run`.
 pub fn program(name: &str) -> Command {
     let mut run = Command::new(host("c/run"));
-    run.arg(host("../target/bin").join(name));
+    run.arg(host("../crates").join(name).join("out").join(name));
     run
 }
 

@@ -47,7 +47,8 @@ fn declared() -> BTreeMap<String, Vec<(String, String)>> {
     for folder in fs::read_dir(host("../crates")).expect("crates") {
         let source = folder.expect("a crate").path().join("src/lib.rt");
         let text = fs::read_to_string(&source).unwrap_or_default();
-        for part in text.split("#[repr(C)]\npub struct ").skip(1) {
+        for part in text.split("#[repr(C)]\n").skip(1) {
+            let (_, part) = part.split_once("pub struct ").expect("a struct");
             let (name, rest) = part.split_once(" {\n").expect("a struct's name");
             let (body, _) = rest.split_once("\n}").expect("a struct's end");
             let field = |line: &str| {

@@ -1,6 +1,6 @@
 //! The program `panelrun` against the model: the stored files, files of several
-//! of the pieces that it reads, cut files, pipes and short reads. `rt check
-//! panelrun` builds it.
+//! of the pieces that it reads, cut files, pipes and short reads. `rt run` in
+//! its crate's folder builds it.
 #![forbid(unsafe_code)]
 
 use compare::check::first_seed;

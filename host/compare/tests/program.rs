@@ -1,5 +1,5 @@
 //! The program `rehearse` against the model: texts of plans, and texts that are
-//! none. `rt check rehearse` builds it.
+//! none. `rt run` in its crate's folder builds it.
 #![forbid(unsafe_code)]
 
 use compare::check::first_seed;
