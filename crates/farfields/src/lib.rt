@@ -55,6 +55,7 @@ fn identifier_fits(e: Event) -> bool
 }
 
 // The fields of an event of kinds 16 to 31 are as the page says.
+#[tactic(auto, unfolding(event::specs::Remote::remote_fields))]
 pub fn remote_fields(e: Event) -> bool
     ensures { result ≡ remote_fields e }
 {

@@ -68,6 +68,7 @@ fn number_of(p: Pending, kind: u8, identifier: u16) -> u8
 }
 
 // Numbers 11, 6 and 9 of an event of kinds 16 to 31; else 0.
+#[tactic(auto, unfolding(remote::specs::Rules::remote_refusal))]
 pub fn remote_refusal(r: Remote, e: Event) -> u8
     ensures { result ≡ remote_refusal r e }
 {
@@ -119,6 +120,7 @@ fn pendings_hold(last: u64, p: Pendings) -> bool
 }
 
 // What is held here is sound, but for shared identifiers.
+#[tactic(auto, unfolding(remote::specs::Held::remote_holds))]
 pub fn remote_holds(last: u64, r: Remote) -> bool
     ensures { result ≡ remote_holds last r }
 {

@@ -7,6 +7,7 @@ ghost use Rattle.slice.specs.Table.{fit_of, settled_at};
 use call::Call;
 
 // How many records are worked on: all where there are up to 64, and none of a longer table.
+#[tactic(auto, unfolding(crate::specs::Table::fit_of))]
 pub fn fit(len: usize) -> usize
     ensures { result ≡ fit_of len }
 {
@@ -33,6 +34,7 @@ pub fn record_at(table: &[Call], n: usize, i: usize) -> Call
 }
 
 // The record at a place becomes c; none does where the count is 0.
+#[tactic(auto, unfolding(crate::specs::Table::settled_at))]
 pub fn settle(table: &mut [Call], place: usize, count: usize, c: Call)
     requires { place + count ≤ length table.old }
     ensures { table.new ≡ settled_at place count c table.old }

@@ -100,6 +100,7 @@ pub fn waits_hold(w: Waits) -> bool
 }
 
 // None waits.
+#[tactic(auto, unfolding(waits::specs::Soundness::waits_unused))]
 pub fn waits_unused(w: Waits) -> bool
     ensures { result ≡ waits_unused w }
 {

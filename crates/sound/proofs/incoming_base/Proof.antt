@@ -1,6 +1,0 @@
-use borrow.Author.Rules.{rules}
-use Rattle.sound.proofs.incoming_base.Statement.{statement}
-use Rattle.sound.proofs.incoming_base.Tie as tie
-
-pub incoming_base_spec : {M : Type 1} → statement M
-incoming_base_spec = tie.close (tie.spec (λ c κs. search rules) (λ c. simp c.before.outgoing-unused.ensures))
