@@ -3,7 +3,7 @@ ghost use Rattle.std.specs.Prelude.{◌≡◌, eqb};
 ghost use Rattle.ground.specs.Choice.{when◌then◌else◌};
 ghost use Rattle.event.specs.Kinds.{OpenWithDli2};
 ghost use Rattle.call.specs.Record.{Active, CdfNone, Wait, CdfDone};
-ghost use Rattle.call.specs.Fields.{basic-is, cdf-is};
+ghost use Rattle.call.specs.Fields.{basic_is, cdf_is};
 ghost use Rattle.call.specs.Messages.{connect_on, connect_with_dli3, one, sending};
 ghost use Rattle.call.specs.Incoming.{opened_incoming, alerted, idle, own_if_allowed, answered};
 
@@ -62,7 +62,7 @@ fn connect_with_dli3(leg: u8, flag: u8, number: u16) -> Message
 
 // "in Wait it carries DLI3 with the flag .., and CDF is done"
 fn answered_in_wait(c: Call, e: Event) -> Effect
-    ensures { result ≡ sending (cdf-is CdfDone (basic-is Active (idle c))) (one (connect_with_dli3 1 e.flag (own_if_allowed c e))) }
+    ensures { result ≡ sending (cdf_is CdfDone (basic_is Active (idle c))) (one (connect_with_dli3 1 e.flag (own_if_allowed c e))) }
 {
     let number = own_if_allowed(c, e);
     let connect = connect_with_dli3(1, e.flag, number);
@@ -74,7 +74,7 @@ fn answered_in_wait(c: Call, e: Event) -> Effect
 }
 
 fn answered_plainly(c: Call) -> Effect
-    ensures { result ≡ sending (basic-is Active (idle c)) (one (connect_on 1)) }
+    ensures { result ≡ sending (basic_is Active (idle c)) (one (connect_on 1)) }
 {
     let connect = message::bare(b'C', 1);
     let sent = message::one(connect);

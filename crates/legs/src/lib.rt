@@ -3,7 +3,7 @@ ghost use Rattle.std.specs.Prelude.{◌≡◌, ◌&&◌, not};
 ghost use Rattle.ground.specs.Choice.{when◌then◌else◌};
 ghost use Rattle.event.specs.Kinds.{connect, release_complete, on_leg2};
 ghost use Rattle.call.specs.Record.{invoked, free_call, forwarded_party};
-ghost use Rattle.call.specs.Fields.{party-is};
+ghost use Rattle.call.specs.Fields.{party_is};
 ghost use Rattle.call.specs.Messages.{leg_failed_on, release_on, one, nothing, sending, silent};
 ghost use Rattle.call.specs.Outgoing.{hand_over, cdr_idle, to_cdo, with_dli3, number_for, after_message, taken_over, on_first_leg, leg2_remains, messaged};
 
@@ -33,7 +33,7 @@ fn cdr_idle(c: Call) -> Call
 
 // "leg 2 becomes leg 1, CDR Idle, DLI1 to the CDO", which has taken what waits.
 fn moved_over(noticed: Noticed, c: Call) -> Call
-    ensures { result ≡ cdr_idle (party-is (forwarded_party c) (to_cdo noticed c)) }
+    ensures { result ≡ cdr_idle (party_is (forwarded_party c) (to_cdo noticed c)) }
 {
     let waiting = c.waiting;
     let party = queue::last_number(waiting);

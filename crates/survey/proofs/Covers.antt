@@ -3,7 +3,7 @@
 use Prim.Native.Nat.{ℕ}
 use mathlib.Core.Bool.{Bool, true, false}
 use mathlib.Core.List.{List, [], ◌∷◌, ◌++◌, append_assoc, append-nil}
-use mathlib.Core.Path.{◌≡◌, refl, ◌∙◌}
+use mathlib.Core.Path.{◌≡◌, refl, sym, subst, ◌∙◌}
 use lib.Dec.{eqb, eqb→eq}
 use lib.ListN.{length, length-set}
 use Rattle.ground.specs.Lists.{all, any}
@@ -52,11 +52,19 @@ module _ (s : Bool × List ℕ) (p : Pending) (w : waits p ≡ true) (held : Lis
   unfolding with_request
   none_same h = let n = neither s.0 (is_marked s.1 p.identifier) (rw w at h) in (n.0, other s.1 p.identifier held n.1 c.marks)
 
+  as_marked : (with_request s p).1 ≡ with_mark s.1 p.identifier
+  unfolding with_request
+  as_marked = rw w
+
+  both_marked : all (is_marked (with_mark s.1 p.identifier)) (p.identifier ∷ held) ≡ true
+  unfolding all
+  both_marked = rw (marked_with s.1 c.full p.identifier) (all_stay s.1 c.full p.identifier held c.marks)
+
   one_before : Covers (with_request s p) (p.identifier ∷ held)
-  unfolding with_request all distinct
+  unfolding distinct
   one_before = record {
     full = as_full;
-    marks = rw (w, marked_with s.1 c.full p.identifier) (all_stay s.1 c.full p.identifier held c.marks);
+    marks = subst (λ (m : List ℕ). all (is_marked m) (p.identifier ∷ held) ≡ true) (sym as_marked) both_marked;
     apart = λ h. let n = none_same h in rw n.1 (c.apart n.0);
   }
 
