@@ -186,6 +186,7 @@ fn call_made(kind: u8, e: Event) -> bool
 }
 
 // The kind is one of 1 to 31, and each field is as the page says.
+#[tactic(auto, unfolding(event::specs::WellMade::well_made))]
 pub fn well_made(kind: u8, e: Event) -> bool
     requires { kind ≡ e.kind }
     ensures { result ≡ well_made e }

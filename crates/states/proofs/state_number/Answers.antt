@@ -5,6 +5,7 @@ use borrow.Author.Rules.{rules}
 use native.Mathlib.Omega.{arith}
 use Rattle.call.specs.State.{basic_forbids, state_forbids}
 use Rattle.event.proofs.Groups.{incoming, far_end, no_incoming, past_incoming, outgoing, no_outgoing, past_outgoing}
+use Rattle.states.proofs.state_number.Goals.{in-15-1, in_default+else-kind-lt1+else-kind-lt4+then-kind-lt10}
 use Rattle.states.proofs.state_number.Goals as goal
 
 -- 1 to 3
@@ -37,4 +38,4 @@ pub returns-in-4-to-9 : goal.returns-in-4-to-9
 unfolding basic_forbids state_forbids
 returns-in-4-to-9 c =
     let e = c.args.e in
-    ⊎_elim (λ w. simp (far_end e (sym c.requires ∙ w.keys1)) c.incoming_number.ensures) (λ w. simp (incoming e (omega arith) (omega arith)) c.incoming_number.ensures) c.in-4-to-9-1.branch
+    elim c.in-4-to-9-1.branch [ in-15-1 w ↦ simp (far_end e (omega arith)) c.incoming_number.ensures | in_default+else-kind-lt1+else-kind-lt4+then-kind-lt10 w ↦ simp (incoming e (omega arith) (omega arith)) c.incoming_number.ensures ]
