@@ -17,7 +17,7 @@ unfolding soonest_of
 loop-i-init c = (omega arith, refl, refl, kept_none, refl)
 
 pub flip-free-requires : goal.flip-free-requires
-flip-free-requires c κs =
+flip-free-requires c =
     let l = c.args.calls in
     let v = c.loop-i in
     let long : length l ≡ 64 = search rules in
