@@ -1,9 +1,9 @@
 -- Each turn notes one more record, and marks its request where it is open.
-use Rattle.std.proofs.Common.{◌≡◌, ◌≤◌, ◌-◌, ◌+◌, refl, sym, ap, ◌∙◌, arith, rules, Bool, List, ℕ, length}
-use lib.ListN.{set, get_or}
+use Rattle.std.proofs.Common.{◌≡◌, ◌≤◌, ◌-◌, ◌+◌, ap, ◌∙◌, arith, Bool, List, ℕ}
+use lib.ListN.{get_or}
 use Rattle.marks.specs.Marks.{word_of}
-use Rattle.survey.specs.Survey.{any_twice, passed_with, summed_of}
-use Rattle.survey.proofs.Walk.{seen, set_by, twice_by, twice_any, twice_few, twice_none, seen_none, set_none, seen_next, set_open, set_else, twice_open, twice_else}
+use Rattle.survey.specs.Survey.{any_twice}
+use Rattle.survey.proofs.Walk.{set_by, twice_by, twice_any, twice_few, twice_none, seen_none, set_none, seen_next, set_open, set_else, twice_open, twice_else}
 use Rattle.survey.proofs.survey.Goals as goal
 
 pub loop-i-init : goal.loop-i-init
