@@ -1,4 +1,6 @@
 // What a decision is made of: what goes out, and which record changes; one for an event that is refused, done on no record, done on one.
+#![tactic(auto)]
+
 ghost use Rattle.std.specs.Prelude.{◌≡◌, ◌<◌};
 ghost use Rattle.change.specs.Change.{unchanged_as, moved_as, changed_as};
 

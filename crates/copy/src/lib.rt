@@ -1,4 +1,6 @@
 // A second walk over the records that a host lends, where it is needed: `column` copies the open identifiers out.
+#![tactic(auto)]
+
 ghost use Rattle.std.specs.Prelude.{◌≡◌, ◌≤◌, length};
 ghost use Rattle.draw.specs.Column.{column_of};
 

@@ -1,5 +1,7 @@
 // One event on what was noted of the records that a host lends, what was picked of their identifiers, and the record where the event acts: what goes
 // out, and which record changes. No record is looked at here, and none is written.
+#![tactic(auto)]
+
 ghost use Rattle.std.specs.Prelude.{◌≡◌, ◌≤◌};
 ghost use Rattle.decision.specs.Decision.{decision_by};
 ghost use Rattle.decision.specs.Words.{head_word, codes_word, first_word, second_word, event_of};

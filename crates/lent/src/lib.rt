@@ -1,5 +1,7 @@
 // One event on the records that a host lends: they are looked at one at a time, the one where the event acts is read once more, and
 // the open identifiers are copied out where they are needed. Nothing is written here.
+#![tactic(auto)]
+
 ghost use Rattle.std.specs.Prelude.{◌≡◌, ◌≤◌, length};
 ghost use Rattle.pick.specs.Pick.{picked_of};
 ghost use Rattle.decision.specs.Decision.{decision_on};

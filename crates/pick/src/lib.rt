@@ -1,5 +1,7 @@
 // What is asked of the records that a host lends, and what is picked of their identifiers: what the survey is asked, where the event acts, whether the open
 // identifiers are copied out, and what they tell. No record is looked at here.
+#![tactic(auto)]
+
 ghost use Rattle.std.specs.Prelude.{◌≡◌, ◌-◌, length};
 ghost use Rattle.timed.specs.Timed.{t1};
 ghost use Rattle.pick.specs.Pick.{asked_of, place_seen, wants_column, apart_where, from_column, as_it_stands};

@@ -1,5 +1,7 @@
 // What a host links: the engine under a plain name, by the C calling convention. Every slice and event may be handed in.
 // The run stands in `whipsail_runs`, fresh stations, an event's test, bytes and plans in `whipsail_aids`, for the same archive.
+#![tactic(auto)]
+
 ghost use Rattle.std.specs.Prelude.{◌≡◌};
 ghost use Rattle.whipsail.specs.Lent.{reply_of, table_after};
 

@@ -1,5 +1,5 @@
 -- Each turn copies one record's identifier.
-use Rattle.std.proofs.Common.{◌≡◌, refl, arith}
+use Rattle.std.proofs.Common.{◌≡◌, arith}
 use Rattle.std.proofs.lemmas.List.{get_or_default}
 use Rattle.call.specs.Record.{free_call}
 use Rattle.draw.proofs.Column.{column_next}
