@@ -1,5 +1,5 @@
 -- A list's mask, the number whose binary digits say which elements pass.
-use Rattle.std.specs.Prelude.{ℕ, zero, suc, ◌+◌, ◌*◌, ◌^◌, Bool, true, false, List, [], ◌∷◌}
+use Rattle.std.specs.Prelude.{ℕ, ◌+◌, ◌*◌, ◌^◌, Bool, List, [], ◌∷◌}
 use Rattle.ground.specs.Choice.{when◌then◌else◌}
 
 abbrev pub digit : Bool → ℕ

@@ -1,5 +1,7 @@
 // Which records of a table are free, as a number's binary digits: one bit alone, the lowest that is set, and the mask after a
 // record's direction changed.
+#![tactic(auto)]
+
 ghost use Rattle.std.specs.Prelude.{◌≡◌, ◌+◌, ◌-◌, ◌^◌, ◌≤◌, ◌<◌, eqb};
 ghost use Rattle.std.specs.Int.Count.{count_trailing_zeros};
 ghost use Rattle.bits.specs.Mask.{weigh};

@@ -1,4 +1,6 @@
 // A record and messages with nothing in them.
+#![tactic(auto)]
+
 ghost use Rattle.std.specs.Prelude.{◌≡◌};
 ghost use Rattle.call.specs.Record.{free_call};
 ghost use Rattle.call.specs.Messages.{no_message, nothing};

@@ -12,7 +12,7 @@ use event::Event;
 use station::Station;
 
 #[repr(C)]
-#[derive(Drop)]
+#[derive(Clone, Copy)]
 pub struct Board {
     pub station: Station,
     pub len: usize,

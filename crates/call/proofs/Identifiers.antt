@@ -8,7 +8,6 @@ use Rattle.ground.proofs.Bools.{eq→eqb, when_has}
 use Rattle.event.specs.declared.Event.{Event}
 use Rattle.event.specs.Kinds.{cfnr}
 use Rattle.call.specs.declared.Call.{Call}
-use Rattle.call.specs.declared.Effect.{Effect}
 use Rattle.call.specs.Record.{invoked}
 use Rattle.call.specs.Outgoing.{turns_down, turned_down, redirected, forwarded, forwarded_on, rerouted, act_outgoing}
 use Rattle.call.specs.Act.{act}

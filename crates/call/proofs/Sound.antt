@@ -1,9 +1,8 @@
 -- A sound record by its parts: free, outgoing or incoming, each with the sentences that it keeps. Assumes nothing.
-use Prim.Native.Nat.{ℕ, ◌≤◌}
-use native.Mathlib.Omega.{arith}
+use Prim.Native.Nat.{ℕ}
 use mathlib.Core.Path.{◌≡◌}
 use mathlib.Core.Bool.{not, ◌&&◌}
-use lib.Dec.{T, eqb, eqb→eq, leb→le, T_not, not_T}
+use lib.Dec.{T, eqb, eqb→eq, T_not}
 use Rattle.ground.proofs.Bools.{and_l, and_r, and_i, by_cases, is_true, from_true}
 use Rattle.ground.specs.Lists.{all}
 use Rattle.waits.specs.Waits.{no_waits}

@@ -1,5 +1,5 @@
 -- What an event that is taken does to its record, by the groups of kinds.
-use Rattle.std.specs.Prelude.{ℕ, Bool, eqb}
+use Rattle.std.specs.Prelude.{ℕ, eqb}
 use Rattle.ground.specs.Choice.{when◌then◌else◌}
 use Rattle.event.specs.declared.Event.{Event}
 use Rattle.event.specs.Kinds.{OpenOutgoing, opens, of_incoming, of_outgoing, clock}

@@ -1,5 +1,5 @@
 -- "Rules for incoming calls": what an event that is taken does. "Messages of incoming calls bear leg 1."
-use Rattle.std.specs.Prelude.{ℕ, suc, ◌+◌, Bool, eqb}
+use Rattle.std.specs.Prelude.{ℕ, ◌+◌, Bool, eqb}
 use Rattle.ground.specs.Choice.{when◌then◌else◌}
 use Rattle.event.specs.declared.Event.{Event}
 use Rattle.event.specs.Kinds.{allowed, OpenWithDli2, UserAlerted, UserAnswers, DivertCall, ReroutingResult, ReroutingError, DivertedLegFailed}

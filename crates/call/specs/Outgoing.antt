@@ -4,13 +4,11 @@ use Rattle.ground.specs.Choice.{when◌then◌else◌}
 use Rattle.event.specs.declared.Event.{Event}
 use Rattle.event.specs.Kinds.{cfu, cfb, cfnr, alerting, connect, release_complete, on_leg2, ReroutingInvoke, Dli1Received}
 use Rattle.notice.specs.declared.Dli1.{Dli1}
-use Rattle.notice.specs.declared.History.{History}
 use Rattle.notice.specs.declared.Noticed.{Noticed}
 use Rattle.notice.specs.Notice.{no_notice, no_number, no_history, take_dli1, after_dli3, number_shown}
 use Rattle.waits.specs.Waits.{no_waits, waits_for, dli1s, waits_with, room, take_all}
 use Rattle.call.specs.declared.Call.{Call}
 use Rattle.call.specs.declared.Message.{Message}
-use Rattle.call.specs.declared.Sent.{Sent}
 use Rattle.call.specs.declared.Effect.{Effect}
 use Rattle.call.specs.Record.{outgoing, Proceeding, Delivered, Active, Idle, Divert, Invoked, active, delivered, divert, invoked, free_call, forwarded_party}
 use Rattle.call.specs.Fields.{basic_is, cdo_is, cdr_is, party_is, waiting_is, history_is}

@@ -1,5 +1,5 @@
 -- "What a record may hold": the states by their names. A state's name begins with a capital letter; what tests a record for it does not.
-use Rattle.std.specs.Prelude.{ℕ, Bool, ◌&&◌, ◌||◌, not, eqb}
+use Rattle.std.specs.Prelude.{ℕ, Bool, ◌&&◌, ◌||◌, eqb}
 use Rattle.event.specs.Kinds.{cfu, cfb, cfnr}
 use Rattle.notice.specs.Notice.{marked, no_history}
 use Rattle.timed.specs.declared.Pending.{Pending}

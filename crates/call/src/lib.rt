@@ -1,4 +1,6 @@
 // One call record, the messages that an event on it sends, and what the event does to it, as plain numbers.
+#![tactic(auto)]
+
 use notice::History;
 use waits::Waits;
 

@@ -1,4 +1,6 @@
 // What another panel's invoke gets of us, kinds 20 to 23: a result where we agree, with what is kept after it, else a return error.
+#![tactic(auto)]
+
 ghost use Rattle.std.specs.Prelude.{◌≡◌, not, eqb};
 ghost use Rattle.remote.specs.Held.{kept_for, with_kept};
 ghost use Rattle.remote.specs.Rules.{echo_of, stands, accepts, kept_after, told, agreed, declined, received};

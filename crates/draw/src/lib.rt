@@ -1,5 +1,7 @@
 // The open identifiers of a table copied out, those of the station's own requests behind them, and the draw among these. A run keeps
 // the column of the calls' from event to event; of a lent slice the driver makes it, where it needs it.
+#![tactic(auto)]
+
 ghost use Rattle.std.specs.Prelude.{◌≡◌, length};
 ghost use Rattle.draw.specs.Column.{held_of, held_by, joined_of, first_free_in, identifier_in};
 

@@ -1,4 +1,6 @@
 // "11 own side ends the call": what goes out on its legs, of a call of either direction.
+#![tactic(auto)]
+
 ghost use Rattle.std.specs.Prelude.{◌≡◌};
 ghost use Rattle.call.specs.Act.{ended};
 

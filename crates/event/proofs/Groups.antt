@@ -1,8 +1,8 @@
 -- To which group of kinds an event belongs, by the bounds of its kind. Assumes nothing.
 use Prim.Native.Nat.{ℕ, ◌≤◌, ◌<◌}
-use mathlib.Core.Bool.{Bool, true, false, ◌&&◌, ◌||◌}
-use mathlib.Core.Path.{◌≡◌, refl}
-use lib.Dec.{leb, eqb}
+use mathlib.Core.Bool.{true, false, ◌&&◌}
+use mathlib.Core.Path.{◌≡◌}
+use lib.Dec.{leb}
 use borrow.Author.Tests.{le-leb, lt-leb, ne_eqb}
 use native.Mathlib.Omega.{arith}
 use Rattle.ground.proofs.Walks.{and_false}

@@ -1,5 +1,4 @@
 -- Identifier 0 in a result, an error or reject, and in an invoke that is received. Assumes nothing.
-use Prim.Native.Nat.{ℕ}
 use mathlib.Core.Path.{◌≡◌, refl}
 use mathlib.Core.Bool.{Bool, true, false, not, ◌||◌}
 use lib.Dec.{T, eqb, eqb→eq}

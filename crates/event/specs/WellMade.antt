@@ -1,5 +1,5 @@
 -- "Event records", the table of kinds with the fields that each uses. "A field that a kind doesn't use is 0."
-use Rattle.std.specs.Prelude.{ℕ, Bool, ◌&&◌, ◌||◌, not, leb, eqb}
+use Rattle.std.specs.Prelude.{Bool, ◌&&◌, ◌||◌, not, leb, eqb}
 use Rattle.ground.specs.Choice.{when◌then◌else◌}
 use Rattle.event.specs.declared.Event.{Event}
 use Rattle.event.specs.Remote.{of_remote, remote_fields}

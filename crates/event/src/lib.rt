@@ -1,4 +1,5 @@
 // Event records, well made or not; `wire` reads them from their bytes, `wellmade` tests their fields.
+#![tactic(auto)]
 
 // One event; a field that its kind doesn't use is 0.
 #[repr(C)]

@@ -1,5 +1,7 @@
 // When a request of a call falls due by T1: the last time at which it isn't, and a column of such times with a bound that is at
 // most each of them, so that a clock event before the bound looks at none.
+#![tactic(auto)]
+
 ghost use Rattle.std.specs.Prelude.{◌≡◌, true, min, length};
 ghost use Rattle.ground.specs.Lists.{first, all};
 ghost use Rattle.expiry.specs.Expiry.{quiet_until, at_least, under, soonest_of, refreshed_of};

@@ -1,4 +1,6 @@
 // The fields of an event of kinds 16 to 31, which concern what the station holds and no call.
+#![tactic(auto)]
+
 ghost use Rattle.std.specs.Prelude.{◌≡◌, not, eqb};
 ghost use Rattle.ground.specs.Choice.{exactly, only};
 ghost use Rattle.event.specs.Remote.{asks, invokes, type_fits, has_destination, others_zero, remote_fields};

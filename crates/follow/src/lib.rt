@@ -100,6 +100,7 @@ fn over(r: Remote, sort: u8, identifier: u32) -> Moved
 }
 
 // An event of kinds 16 to 31 that is taken; the identifier is the one that a request would draw.
+#[tactic(auto, unfolding(remote::specs::Rules::act_remote))]
 fn act_remote(r: Remote, e: Event, identifier: u16) -> Moved
     ensures { result ≡ act_remote r e identifier }
 {
@@ -167,6 +168,7 @@ fn lapse_of(r: Remote, sort: u8) -> Moved
 }
 
 // A clock event, where no T1 request is due.
+#[tactic(auto, unfolding(remote::specs::Rules::lapse))]
 fn lapse(time: u64, r: Remote) -> Moved
     ensures { result ≡ lapse time r }
 {
@@ -185,6 +187,7 @@ fn taken(r: Remote, e: Event) -> bool
 }
 
 // One event here; the clock's, where no T1 request is due.
+#[tactic(auto, unfolding(remote::specs::Rules::step))]
 pub fn step(r: Remote, e: Event, identifier: u16) -> Moved
     ensures { result ≡ step r e identifier }
 {

@@ -1,4 +1,6 @@
 // Bytes of a slice: numbers of several, big-endian, at any place; and some moved to its start.
+#![tactic(auto)]
+
 ghost use Rattle.std.specs.Prelude.{◌≡◌, ℕ, ◌+◌, ◌*◌, ◌≤◌, ◌<◌, length, drop};
 ghost use Rattle.std.proofs.Math.Seq.{paste};
 ghost use Rattle.ground.specs.Bytes.{pair, four, word_at, long_at};

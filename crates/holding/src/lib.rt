@@ -1,5 +1,7 @@
 // What a station holds for kinds 16 to 31, read and tested: the request of a sort, the numbers that an event is refused with by it, and
 // when all of it is sound.
+#![tactic(auto)]
+
 ghost use Rattle.std.specs.Prelude.{◌≡◌, not, ◌&&◌, leb, eqb};
 ghost use Rattle.timed.specs.Timed.{waits};
 ghost use Rattle.remote.specs.Held.{pending_of, pendings_hold, remote_holds};

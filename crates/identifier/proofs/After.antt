@@ -1,5 +1,5 @@
 -- The number after an identifier, and the round that its candidates make: 65,535 numbers without 0. Assumes nothing.
-use Rattle.std.proofs.Common.{◌≡◌, ℕ, zero, suc, ◌+◌, ◌-◌, ◌%◌, ◌<◌, ◌≤◌, eqb, ltb, sym, refl, ◌∙◌, le_of_suc-le-suc, arith, ltb-false, ltb-true, eqb-true}
+use Rattle.std.proofs.Common.{◌≡◌, ℕ, zero, suc, ◌+◌, ◌-◌, ◌%◌, ◌<◌, eqb, ltb, sym, refl, ◌∙◌, le_of_suc-le-suc, arith, ltb-false, ltb-true, eqb-true}
 use borrow.Author.Tests.{eqb-false}
 use Rattle.ground.proofs.Bools.{by_cases}
 use Rattle.identifier.specs.Identifier.{after}

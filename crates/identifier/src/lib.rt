@@ -1,4 +1,6 @@
 // The identifiers of our callRerouting requests: 1 to 65,535.
+#![tactic(auto)]
+
 ghost use Rattle.std.specs.Prelude.{◌≡◌};
 ghost use Rattle.identifier.specs.Identifier.{after};
 

@@ -1,4 +1,6 @@
 // "Rules for incoming calls": a call that is opened, alerted, answered; a divert is in `requests`.
+#![tactic(auto)]
+
 ghost use Rattle.std.specs.Prelude.{◌≡◌, eqb};
 ghost use Rattle.ground.specs.Choice.{when◌then◌else◌};
 ghost use Rattle.event.specs.Kinds.{OpenWithDli2};

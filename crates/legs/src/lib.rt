@@ -1,4 +1,6 @@
 // "14: .." what a message on a leg of an outgoing call does.
+#![tactic(auto)]
+
 ghost use Rattle.std.specs.Prelude.{◌≡◌, ◌&&◌, not};
 ghost use Rattle.ground.specs.Choice.{when◌then◌else◌};
 ghost use Rattle.event.specs.Kinds.{connect, release_complete, on_leg2};

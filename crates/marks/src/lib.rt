@@ -1,5 +1,7 @@
 // Marks of identifiers: a bit for each identifier modulo 512, in eight words. An identifier whose mark is not set is none of those that set theirs; two
 // that share a mark may differ.
+#![tactic(auto)]
+
 ghost use Rattle.std.specs.Prelude.{◌≡◌, length};
 ghost use Rattle.marks.specs.Marks.{word_of, count_in, set_in, put_in, is_marked, marks_with, twice_in, with_four, told_of};
 

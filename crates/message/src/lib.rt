@@ -1,4 +1,6 @@
 // The messages of an answer with leg and arguments, and an effect around them.
+#![tactic(auto)]
+
 ghost use Rattle.std.specs.Prelude.{◌≡◌};
 ghost use Rattle.call.specs.Record.{free_call};
 ghost use Rattle.call.specs.Messages.{bare, one, two, sending, silent};

@@ -1,4 +1,6 @@
 // What the caller is told: the history of the DLI1 and DLI3 of one call.
+#![tactic(auto)]
+
 ghost use Rattle.std.specs.Prelude.{◌≡◌};
 ghost use Rattle.notice.specs.Notice.{strictest_with, gives_notice, notice_of, reopened, take_dli1, may_show, number_shown, after_dli3, take_dli3};
 

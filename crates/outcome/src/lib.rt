@@ -1,4 +1,6 @@
 // What goes out of a done event beside the record: the station after it, and its answer.
+#![tactic(auto)]
+
 ghost use Rattle.std.specs.Prelude.{◌≡◌};
 ghost use Rattle.station.specs.Step.{answer_of, far_answer};
 ghost use Rattle.outcome.specs.Outcome.{station_on, station_far};

@@ -1,4 +1,6 @@
 // "Rules for outgoing calls": a call that is opened and a DLI1 that is received; an invoke is in `rerouting`.
+#![tactic(auto)]
+
 ghost use Rattle.std.specs.Prelude.{◌≡◌};
 ghost use Rattle.call.specs.Outgoing.{opened_outgoing, dli1_of, to_cdo, informed};
 

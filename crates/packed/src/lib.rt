@@ -1,5 +1,7 @@
 // An effect with each message as two words: what the rules of fifteen kinds hand back is joined, and the compiler then joins six words where the
 // messages have 33 fields.
+#![tactic(auto)]
+
 ghost use Rattle.std.specs.Prelude.{◌≡◌};
 ghost use Rattle.packed.specs.Messages.{head_word, rest_word, words_of, message_of, packed_of, effect_of};
 

@@ -13,7 +13,7 @@ use Rattle.event.specs.declared.Event.{Event}
 use Rattle.call.specs.declared.Call.{Call}
 use Rattle.station.specs.declared.Station.{Station}
 use Rattle.station.specs.Table.{sound}
-use Rattle.station.specs.Step.{step, run_on}
+use Rattle.station.specs.Step.{step, run_on, Ran, run_step}
 use Rattle.station.proofs.Places.{length_stays}
 use Rattle.board.specs.declared.Board.{Board}
 use Rattle.board.specs.Board.{table_of, board_with, sound_board}
@@ -60,7 +60,10 @@ counts_apart : (b : Board) (done refused done' refused' : ℕ) (s : Station) (ca
     board_with b r.station r.calls ≡ board_with b q.station q.calls
 unfolding run_on
 counts_apart b done refused done' refused' s calls [] = refl
-counts_apart b done refused done' refused' s calls (e ∷ es) = counts_apart b _ _ _ _ (step s calls e).station (step s calls e).calls es
+counts_apart b done refused done' refused' s calls (e ∷ es) =
+    let r : Ran = run_step (record { done = done; refused = refused; station = s; calls = calls }) e in
+    let q : Ran = run_step (record { done = done'; refused = refused'; station = s; calls = calls }) e in
+    counts_apart b r.done r.refused q.done q.refused (step s calls e).station (step s calls e).calls es
 
 pub after_more : (b : Board) (e : Event) (es : List Event) → b.len ≤ 64 → board_after b (e ∷ es) ≡ board_after (step_board b e).board es
 unfolding board_after run_on

@@ -8,7 +8,7 @@ use sight::Seen;
 use turn::Turn;
 
 #[repr(C)]
-#[derive(Drop)]
+#[derive(Clone, Copy)]
 pub struct Played {
     pub board: Board,
     pub position: u64,

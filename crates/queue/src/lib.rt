@@ -1,4 +1,6 @@
 // The DLI1s that wait in Invoked: one comes, one more, and all are handed over.
+#![tactic(auto)]
+
 ghost use Rattle.std.specs.Prelude.{◌≡◌, T};
 ghost use Rattle.waits.specs.Waits.{no_waits, waits_for, dli1s, waits_with, room, last_number, after_all, behind, take_all};
 

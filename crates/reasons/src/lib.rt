@@ -1,4 +1,6 @@
 // Whether a reason fits a call's basic state: what a sound record asks of its own, and numbers 10 and 11 of an event's.
+#![tactic(auto)]
+
 ghost use Rattle.std.specs.Prelude.{◌≡◌};
 ghost use Rattle.call.specs.Record.{fits as fitsState};
 

@@ -1,20 +1,19 @@
 -- Forwards that come back to a panel go on for ever, and a call stays in the plan. Assumes nothing.
 use Prim.Native.Nat.{ℕ, zero, suc, ◌+◌, ◌-◌, ◌≤◌, ◌<◌}
-use mathlib.Core.Path.{◌≡◌, refl, sym, ap, ◌∙◌, subst}
-use mathlib.Core.Bool.{Bool, true, false, ◌&&◌, not}
+use mathlib.Core.Path.{◌≡◌, sym, ap, ◌∙◌, subst}
+use mathlib.Core.Bool.{Bool, true, ◌&&◌}
 use mathlib.Core.List.{List}
 use native.Mathlib.Omega.{arith}
-use lib.Dec.{T, eqb, ltb, leb}
-use lib.ListN.{length, get_or}
+use lib.Dec.{T, ltb, leb}
+use lib.ListN.{length}
 use borrow.Author.Tests.{ltb-true, ltb-false, leb-true, le-leb}
 use Rattle.ground.specs.Lists.{all}
 use Rattle.ground.proofs.Bools.{is_true, from_true, by_cases, and_l, and_r, and_i, when_has}
 use Rattle.ground.proofs.Walks.{all_get}
 use Rattle.station.specs.Station.{short_limit}
 use Rattle.rehearsal.specs.declared.Panel.{Panel}
-use Rattle.rehearsal.specs.declared.Rehearsed.{Rehearsed}
-use Rattle.rehearsal.specs.Plan.{no_panel, panel_at, given, is_busy, is_unattended, forwards_to, next, asks, after, in_plan, panel_ok, plan_ok}
-use Rattle.rehearsal.specs.Rehearsal.{at_limit, ending_at, ended, forwards, rehearsed}
+use Rattle.rehearsal.specs.Plan.{no_panel, panel_at, given, is_busy, is_unattended, forwards_to, next, asks, after, in_plan, panel_ok}
+use Rattle.rehearsal.specs.Rehearsal.{forwards}
 use Rattle.rehearsal.specs.Statements.{CircleEnds, StaysInPlan}
 use Rattle.rehearsal.proofs.Tonight.{steps_on, answer_is, asks_at_limit, right_tonight}
 

@@ -1,23 +1,23 @@
 -- The answer is 3 exactly for what the page refuses, and else the right one. Assumes nothing.
-use Prim.Native.Nat.{ℕ, zero, suc, ◌%◌, ◌≤◌, ◌<◌}
+use Prim.Native.Nat.{ℕ, suc, ◌%◌, ◌<◌}
 use mathlib.Core.Path.{◌≡◌, refl, sym, ◌∙◌}
-use mathlib.Core.Bool.{Bool, true, false, ◌&&◌, not, false≢true}
+use mathlib.Core.Bool.{Bool, true, false, ◌&&◌, false≢true}
 use mathlib.Core.Logic.{◌↔◌}
 use mathlib.Core.List.{List, [], ◌∷◌}
 use native.Mathlib.Omega.{arith}
-use lib.Dec.{T, eqb, leb}
+use lib.Dec.{eqb, leb}
 use lib.ListN.{length, get_or}
 use borrow.Author.Tests.{eqb-false, leb-false, lt-leb, ne_eqb}
 use Rattle.ground.specs.Choice.{when◌then◌else◌}
 use Rattle.ground.specs.Lists.{all}
-use Rattle.ground.proofs.Bools.{is_true, is_false, from_true, from_false, by_cases}
-use Rattle.ground.proofs.Walks.{both, and_false, all_get}
+use Rattle.ground.proofs.Bools.{by_cases}
+use Rattle.ground.proofs.Walks.{and_false, all_get}
 use Rattle.station.specs.Station.{short_limit}
 use Rattle.rehearsal.specs.declared.Panel.{Panel}
 use Rattle.rehearsal.specs.declared.Rehearsed.{Rehearsed}
-use Rattle.rehearsal.specs.Plan.{no_panel, panels_of, in_plan, panel_ok, plan_ok}
-use Rattle.rehearsal.specs.Rehearsal.{refusal, rehearsed, is_plan, rehearsal_of}
-use Rattle.rehearsal.specs.Statements.{Tonight, Faulty, cfu_outside, cfb_outside, cfnr_outside, busy_above, unattended_above, Refused, not_fours, empty, over_long, start_absent, start_outside, panel_faulty, AnswersTonight, RefusedExactly}
+use Rattle.rehearsal.specs.Plan.{no_panel, panels_of, in_plan, panel_ok}
+use Rattle.rehearsal.specs.Rehearsal.{refusal, rehearsed, is_plan}
+use Rattle.rehearsal.specs.Statements.{Faulty, cfu_outside, cfb_outside, cfnr_outside, busy_above, unattended_above, Refused, not_fours, empty, over_long, start_absent, start_outside, panel_faulty, AnswersTonight, RefusedExactly}
 use Rattle.rehearsal.proofs.Tonight.{right_tonight}
 
 -- of two tests that don't both hold, the first fails or the second

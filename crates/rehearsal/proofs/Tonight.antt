@@ -12,9 +12,9 @@ use Rattle.ground.specs.Choice.{when◌then◌else◌}
 use Rattle.ground.proofs.Bools.{is_true, is_false, from_true, by_cases}
 use Rattle.rehearsal.specs.declared.Panel.{Panel}
 use Rattle.rehearsal.specs.declared.Rehearsed.{Rehearsed}
-use Rattle.rehearsal.specs.Plan.{given, is_busy, is_unattended, panel_at, forwards_to, reason_of, next, asks, after}
-use Rattle.rehearsal.specs.Rehearsal.{rings, ends_busy, at_limit, kept_as, ending_at, ended, forwards, offered, rehearsed}
-use Rattle.rehearsal.specs.Statements.{keeps_busy, keeps_ringing, Tonight, RightTonight, OnlyTonight, StepsOn, InOrder, ForwardsInOrder}
+use Rattle.rehearsal.specs.Plan.{given, is_busy, is_unattended, panel_at, forwards_to, next, asks, after}
+use Rattle.rehearsal.specs.Rehearsal.{rings, ends_busy, at_limit, ending_at, ended, forwards, offered, rehearsed}
+use Rattle.rehearsal.specs.Statements.{keeps_busy, keeps_ringing, Tonight, RightTonight, OnlyTonight, StepsOn, ForwardsInOrder}
 
 pub steps_on : StepsOn
 unfolding after

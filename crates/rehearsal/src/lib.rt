@@ -1,4 +1,5 @@
 // Who will ring tonight: a panel of a plan, and the answer.
+#![tactic(auto)]
 
 // A panel: three destinations, 0 for none, and two marks, 0 or 1.
 #[derive(Clone, Copy)]

@@ -1,4 +1,6 @@
 // What a station holds for remote activation, deactivation, interrogation and the restriction check.
+#![tactic(auto)]
+
 ghost use Rattle.std.specs.Prelude.{◌≡◌};
 ghost use Rattle.remote.specs.Held.{fresh};
 

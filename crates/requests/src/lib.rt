@@ -1,4 +1,6 @@
 // "Rules for incoming calls": the request of a divert, from the invoke to its end.
+#![tactic(auto)]
+
 ghost use Rattle.std.specs.Prelude.{◌≡◌, ◌<◌};
 ghost use Rattle.call.specs.Messages.{silent};
 ghost use Rattle.call.specs.Incoming.{idle, original_sent, invoke_of, asking, diverted, grant, expired};

@@ -1,4 +1,6 @@
 // "12: callRerouting invoke received": it is turned down, the call is redirected, forwarded, or forwarded on.
+#![tactic(auto)]
+
 ghost use Rattle.std.specs.Prelude.{◌≡◌, T};
 ghost use Rattle.waits.specs.Waits.{room};
 ghost use Rattle.call.specs.Messages.{echo_on, release_on, result_on, two, three};

@@ -10,7 +10,7 @@ use turn::Turn;
 
 // What a run leaves; `cut` is the byte count of a cut last record.
 #[repr(C)]
-#[derive(Drop)]
+#[derive(Clone, Copy)]
 pub struct Ran {
     pub done: u64,
     pub refused: u64,

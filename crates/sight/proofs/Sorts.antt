@@ -1,17 +1,16 @@
 -- What the kind of a well-made event tells of it. Assumes nothing.
 use Prim.Native.Nat.{ℕ, suc, ◌≤◌, ◌<◌}
-use mathlib.Core.Bool.{Bool, true, false, ◌&&◌, ◌||◌, false≢true}
-use mathlib.Core.Path.{◌≡◌, refl, sym, ◌∙◌}
+use mathlib.Core.Bool.{true, false, ◌||◌, false≢true}
+use mathlib.Core.Path.{◌≡◌, sym, ◌∙◌}
 use native.Mathlib.Omega.{arith}
-use borrow.Author.Tests.{eq-eqb, ne_eqb, lt-ltb, le-ltb, le-leb, ltb-true, ltb-false, eqb-true, eqb-false}
-use lib.Dec.{eqb, ltb, leb}
+use borrow.Author.Tests.{ne_eqb, le-leb, ltb-true, ltb-false, eqb-true, eqb-false}
+use lib.Dec.{eqb, ltb}
 use Rattle.ground.proofs.Bools.{by_cases}
-use Rattle.ground.proofs.Walks.{or_true}
 use Rattle.event.specs.declared.Event.{Event}
-use Rattle.event.specs.Kinds.{opens, of_incoming, of_outgoing, ends, diverts, answers_request, clock}
+use Rattle.event.specs.Kinds.{of_incoming, of_outgoing, ends}
 use Rattle.event.specs.Remote.{of_remote}
 use Rattle.event.specs.WellMade.{call_made, well_made}
-use Rattle.event.proofs.Groups.{opener, no_opener, incoming, far_end, no_incoming, past_incoming, outgoing, no_outgoing, past_outgoing}
+use Rattle.event.proofs.Groups.{incoming, far_end, past_incoming, outgoing}
 
 past : (k m : ℕ) → m ≤ k → (k ≡ m → ⊥) → suc m ≤ k
 past k m h n = omega (arith, h, n)

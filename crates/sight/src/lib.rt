@@ -1,4 +1,6 @@
 // What a driver sees of its table, and where an event acts.
+#![tactic(auto)]
+
 ghost use Rattle.std.specs.Prelude.{◌≡◌};
 ghost use Rattle.sight.specs.Sight.{place_of};
 

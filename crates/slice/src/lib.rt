@@ -1,4 +1,6 @@
 // A host lends the table of calls as a slice of records: what of it is worked on, one record of it, and the one record that an event changes.
+#![tactic(auto)]
+
 ghost use Rattle.std.specs.Prelude.{◌≡◌, ◌+◌, ◌≤◌, ◌<◌, length, take, get_or};
 ghost use Rattle.call.specs.Record.{free_call};
 ghost use Rattle.station.specs.Table.{at};

@@ -1,5 +1,7 @@
 // "What a record may hold": when one record is sound, by cases that each look at few fields, since the walk over a lent table reads a record anew in each.
 // Fields that are unused are tested together, by words.
+#![tactic(auto)]
+
 ghost use Rattle.std.specs.Prelude.{◌≡◌, ◌&&◌};
 ghost use Rattle.waits.specs.Soundness.{waits_hold};
 ghost use Rattle.call.specs.Record.{delivered};

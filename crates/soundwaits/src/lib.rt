@@ -1,4 +1,6 @@
 // What of the DLI1s that wait a sound record may hold. Places that are unused are tested by words.
+#![tactic(auto)]
+
 ghost use Rattle.std.specs.Prelude.{◌≡◌};
 ghost use Rattle.waits.specs.Soundness.{dli1_unused, first_holds, later_holds, place_holds, later_unused, later_hold, waits_unused, waits_hold};
 ghost use Rattle.soundwaits.specs.Words.{dli1_word, pair_word};

@@ -1,4 +1,6 @@
 // Numbers 10 and 11: whether the state rules take an event, by its call's basic state alone or by its other states.
+#![tactic(auto)]
+
 ghost use Rattle.std.specs.Prelude.{◌≡◌};
 ghost use Rattle.call.specs.State.{incoming_forbids, message_forbids, outgoing_forbids, incoming_basic_forbids, message_basic_forbids, outgoing_basic_forbids, ten_or_eleven, state_number};
 

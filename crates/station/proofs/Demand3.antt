@@ -1,11 +1,10 @@
 -- Demand 3: a stricter run shows no more and is otherwise the same. Assumes nothing.
 use Prim.Native.Nat.{ℕ}
-use mathlib.Core.Path.{◌≡◌, refl, ap, sym, ◌∙◌}
+use mathlib.Core.Path.{◌≡◌, refl, ◌∙◌}
 use mathlib.Core.Bool.{Bool, true, false, not, ◌&&◌}
 use mathlib.Core.List
 use mathlib.Core.List.{List, [], ◌∷◌, Forall₂}
-use lib.Dec.{T, ltb, eqb, eqb→eq}
-use lib.ListN.{length}
+use lib.Dec.{T, eqb}
 use Rattle.ground.specs.Choice.{when◌then◌else◌}
 use Rattle.ground.specs.Lists.{all}
 use Rattle.ground.proofs.Bools.{and_l, and_r, by_cases, from_true, from_false, when_has}

@@ -25,7 +25,7 @@ use Rattle.remote.specs.Laws.{left_by}
 use Rattle.remote.proofs.Roles.{step_clocks, step_foreign, step_invoked}
 use Rattle.remote.proofs.Stored.{left_by_one}
 use Rattle.station.specs.declared.Station.{Station}
-use Rattle.station.specs.Table.{at, sound, identifier_for, place}
+use Rattle.station.specs.Table.{sound, identifier_for, place}
 use Rattle.station.specs.Refusals.{refusal_on_sound, refusal}
 use Rattle.station.specs.Step.{Outcome, far_moved, far_done, on_call, step, turns, run_step, run_on}
 use Rattle.station.specs.Far.{FarLeaves, Leaves, NearLeaves, FarSteps, FarNumbers, FarDoes, FarSaid, FarSays, FarEchoed, last_left, KeepsLast}

@@ -1,13 +1,12 @@
 -- "Each done event leaves a sound table." Assumes nothing.
 use Prim.Native.Nat.{ℕ, zero, suc, ◌<◌}
-use native.Mathlib.Omega.{arith}
 use mathlib.Core.Path.{◌≡◌, refl}
-use mathlib.Core.Bool.{Bool, true, not, ◌&&◌, ◌||◌}
+use mathlib.Core.Bool.{Bool, true, not, ◌||◌}
 use mathlib.Core.List.{List, [], ◌∷◌, ◌++◌}
-use lib.Dec.{T, leb, eqb, eqb→eq, le→leb, T_not, not_T}
+use lib.Dec.{T, eqb, eqb→eq, le→leb, not_T}
 use lib.ListN.{length, set, length-set, replicate, length-replicate}
 use Rattle.ground.specs.Lists.{all}
-use Rattle.ground.proofs.Bools.{and_l, and_r, and_i, is_true, is_false, from_true, from_false, when_has}
+use Rattle.ground.proofs.Bools.{and_l, and_r, and_i, is_true, is_false, from_true, when_has}
 use Rattle.ground.proofs.Walks.{all_set}
 use Rattle.event.specs.declared.Event.{Event}
 use Rattle.event.specs.Kinds.{diverts}
@@ -26,7 +25,7 @@ use Rattle.call.specs.Act.{act}
 use Rattle.call.proofs.Sound.{free_sound}
 use Rattle.call.proofs.Kept.{sound_later, act_kept, act_request}
 use Rattle.station.specs.declared.Station.{Station}
-use Rattle.station.specs.Station.{limit_ok, next_ok, fresh_station}
+use Rattle.station.specs.Station.{next_ok, fresh_station}
 use Rattle.station.specs.Table.{at, requests_of, open_identifiers, sound, identifier_for, place}
 use Rattle.station.specs.Step.{Outcome, next_after, station_with, station_after, effect_at, far_done, far_moved, step, turns, outcomes, run_step, run_on}
 use Rattle.station.specs.Demand2.{StepSound, OutcomesSound, RunSound, FreshSound}

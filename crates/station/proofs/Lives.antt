@@ -1,6 +1,6 @@
 -- Demand 3: "In calls where nothing was tightened the whole answers are equal." Assumes nothing.
 use Prim.Native.Nat.{ℕ}
-use mathlib.Core.Path.{◌≡◌, refl, ap, sym, ◌∙◌}
+use mathlib.Core.Path.{◌≡◌, refl, sym, ◌∙◌}
 use mathlib.Core.Bool.{Bool, true, false, not, ◌&&◌, ◌||◌}
 use mathlib.Core.List.{List, Forall₂}
 use native.Mathlib.Omega.{arith}
@@ -18,7 +18,6 @@ use Rattle.call.specs.Act.{act}
 use Rattle.call.specs.Stricter.{StricterEvent, same, lower, hide, StricterCall}
 use Rattle.call.proofs.Stricter.{framed_of, opening_same}
 use Rattle.station.specs.declared.Station.{Station}
-use Rattle.station.specs.Station.{empty_answer}
 use Rattle.station.specs.Table.{at, sound, identifier_for, place}
 use Rattle.station.specs.Step.{effect_at, step, turn, turns}
 use Rattle.station.proofs.Kept.{step_sound}

@@ -1,18 +1,18 @@
 -- The open requests of a station and its table by their places, and the identifier that the next one takes. Assumes nothing.
-use Prim.Native.Nat.{ℕ, zero, suc, ◌≤◌, ◌<◌}
+use Prim.Native.Nat.{ℕ, ◌≤◌, ◌<◌}
 use native.Mathlib.Omega.{arith}
-use mathlib.Core.Path.{◌≡◌, refl, ap, sym}
+use mathlib.Core.Path.{◌≡◌, refl}
 use mathlib.Core.Bool.{true, false, not}
 use mathlib.Core.List.{List, [], ◌∷◌, ◌++◌}
 use lib.Dec.{T, eqb, eqb→eq, leb→le, T_not, not_T}
-use lib.ListN.{length, get_or, set, length-append}
+use lib.ListN.{length, set, length-append}
 use Rattle.ground.specs.Choice.{when◌then◌else◌}
 use Rattle.ground.proofs.Bools.{eq→eqb}
 use Rattle.ground.proofs.Lowest.{within}
 use Rattle.identifier.specs.Identifier.{taken, distinct}
 use Rattle.identifier.proofs.Pigeon.{crowded}
 use Rattle.identifier.proofs.Draw as draw
-use Rattle.identifier.proofs.Joined.{taken_left, taken_right, taken_either, distinct_left, distinct_right, distinct_joined, parts_apart}
+use Rattle.identifier.proofs.Joined.{taken_left, taken_right, distinct_left, distinct_right, distinct_joined, parts_apart}
 use Rattle.identifier.proofs.Holders as holders
 use Rattle.timed.specs.declared.Pending.{Pending}
 use Rattle.timed.specs.Timed.{waits, Timer, waiting, no_timer, identifiers_of}
@@ -23,7 +23,7 @@ use Rattle.remote.specs.Kinds.{length_of}
 use Rattle.remote.specs.Held.{with_pending, timers_of}
 use Rattle.remote.proofs.Held.{timers_at, timers_put}
 use Rattle.station.specs.declared.Station.{Station}
-use Rattle.station.specs.Table.{at, requests_of, open_identifiers, sound, identifier_for}
+use Rattle.station.specs.Table.{requests_of, open_identifiers, sound, identifier_for}
 use Rattle.station.specs.Demand2.{Open, FarOpen, Apart, DistinctReads, SoundApart, SoundDraws, DrawnThere}
 use Rattle.station.proofs.Whole.{whole}
 

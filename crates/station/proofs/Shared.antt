@@ -12,7 +12,7 @@ use Rattle.ground.proofs.Bools.{is_true}
 use Rattle.ground.proofs.Pointwise.{get_d_rel, length_rel}
 use Rattle.event.specs.declared.Event.{Event}
 use Rattle.event.specs.WellMade.{well_made, call_made}
-use Rattle.notice.specs.Stricter.{lowered, tightened}
+use Rattle.notice.specs.Stricter.{tightened}
 use Rattle.waits.proofs.Laws.{party_same, count_same, numbers_same as waiting-numbers-same, reasons_same as waiting-reasons-same}
 use Rattle.call.specs.declared.Call.{Call}
 use Rattle.call.specs.Record.{is_free}

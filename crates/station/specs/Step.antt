@@ -1,5 +1,5 @@
 -- One event, and a list of them.
-use Rattle.std.specs.Prelude.{ℕ, suc, ◌+◌, Bool, ◌&&◌, ◌||◌, not, ltb, eqb, length, set}
+use Rattle.std.specs.Prelude.{ℕ, ◌+◌, Bool, ◌&&◌, ◌||◌, not, ltb, eqb, length, set}
 use mathlib.Core.List.{List, [], ◌∷◌, map, foldl}
 use Rattle.ground.specs.Choice.{when◌then◌else◌}
 use Rattle.event.specs.declared.Event.{Event}

@@ -1,4 +1,6 @@
 // The station and the answer to an event, as plain numbers.
+#![tactic(auto)]
+
 use call::Sent;
 use remote::Remote;
 

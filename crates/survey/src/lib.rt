@@ -1,5 +1,7 @@
 // The walk over the records that a host lends. `survey`, from the last to the first, notes what a step asks of the whole table in
 // a few numbers, and marks the identifiers of its open requests; those that the station holds are marked with them.
+#![tactic(auto)]
+
 ghost use Rattle.std.specs.Prelude.{◌≡◌, ◌≤◌, ◌<◌, length, take, get_or};
 ghost use Rattle.call.specs.Record.{free_call, request_of};
 ghost use Rattle.sound.specs.Cases.{incoming_by, waiting_by, outgoing_by};

@@ -1,4 +1,6 @@
 // When a table is sound: the first `len` records of an array by value, and the identifiers of its open requests as a column.
+#![tactic(auto)]
+
 ghost use Rattle.std.specs.Prelude.{◌≡◌, ◌&&◌, ◌++◌, ◌≤◌, eqb, length, take, drop};
 ghost use Rattle.ground.specs.Lists.{all, any};
 ghost use Rattle.identifier.specs.Identifier.{distinct};

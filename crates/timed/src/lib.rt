@@ -1,4 +1,6 @@
 // One request that waits for its answer while a timer runs; the timer's length is a number like any other.
+#![tactic(auto)]
+
 ghost use Rattle.std.specs.Prelude.{◌≡◌};
 ghost use Rattle.timed.specs.Timed.{idle, asked, due, unused, holds};
 

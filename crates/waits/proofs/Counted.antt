@@ -1,13 +1,13 @@
 -- How many wait, by the count that a record holds. Assumes nothing.
-use Prim.Native.Nat.{ℕ, suc, ◌≤◌, ◌<◌}
-use mathlib.Core.Path.{◌≡◌, refl, ap, ◌∙◌}
+use Prim.Native.Nat.{suc, ◌≤◌, ◌<◌}
+use mathlib.Core.Path.{◌≡◌, refl, ap}
 use mathlib.Core.List.{List, Forall₂}
 use native.Mathlib.Omega.{arith}
 use lib.Dec.{T, ltb, ltb→lt}
-use borrow.Author.Tests.{lt-ltb, le-ltb, ltb-true, ltb-false}
-use lib.ListN.{length, take}
+use borrow.Author.Tests.{lt-ltb, ltb-true, ltb-false}
+use lib.ListN.{length}
 use lib.Seq.{length-take-le, take_all}
-use Rattle.ground.proofs.Bools.{and_l, and_r, by_cases}
+use Rattle.ground.proofs.Bools.{by_cases}
 use Rattle.notice.specs.declared.Dli1.{Dli1}
 use Rattle.notice.specs.Stricter.{StricterDli1}
 use Rattle.waits.specs.declared.Waits.{Waits}

@@ -1,5 +1,5 @@
 -- What a record's rules do to the waiting ones keeps them sound, and as strict. Assumes nothing.
-use Prim.Native.Nat.{ℕ, zero, suc, ◌+◌, ◌<◌, ◌≤◌}
+use Prim.Native.Nat.{ℕ, zero, suc, ◌≤◌}
 use mathlib.Core.Path.{◌≡◌, refl}
 use mathlib.Core.Bool.{true, not}
 use mathlib.Core.List.{List, [], ◌∷◌, Forall₂}
@@ -15,7 +15,7 @@ use Rattle.notice.specs.declared.Dli1.{Dli1}
 use Rattle.notice.specs.Stricter.{StricterDli1, lowered}
 use Rattle.waits.specs.declared.Waits.{Waits}
 use Rattle.waits.specs.Waits.{no_dli1, no_waits, waits_for, behind, waits_with, room, last_after, last_number}
-use Rattle.waits.specs.Soundness.{dli1_unused, first_holds, later_holds, places_there, later_hold, waits_hold, later_unused, waits_unused}
+use Rattle.waits.specs.Soundness.{dli1_unused, first_holds, later_holds, places_there, waits_hold, later_unused, waits_unused}
 use Rattle.waits.specs.Laws.{StricterWaits, each}
 use Rattle.waits.proofs.Counted.{room_below}
 

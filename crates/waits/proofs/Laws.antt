@@ -17,8 +17,8 @@ use Rattle.notice.specs.Notice.{no_notice, unmarked, marked, strictest_with, not
 use Rattle.notice.specs.Stricter.{StricterDli1, lowered, StricterHistory}
 use Rattle.notice.proofs.Stricter.{dli1_stricter, notice_stricter}
 use Rattle.waits.specs.Waits.{behind, last_after, after_all, take_all}
-use Rattle.waits.specs.Soundness.{later_holds, first_holds, waits_hold}
-use Rattle.waits.specs.Laws.{Appends, NumbersLast, notices_of, LaterSilent, NominatesLast, strictest_of, SumsUp, StricterWaits, each, HandsOverStricter, HandsOverNoMore, PartySame, dli1_number, dli1_reason, NumbersSame, ReasonsSame, CountSame}
+use Rattle.waits.specs.Soundness.{later_holds, waits_hold}
+use Rattle.waits.specs.Laws.{Appends, NumbersLast, notices_of, LaterSilent, NominatesLast, strictest_of, SumsUp, each, HandsOverStricter, HandsOverNoMore, PartySame, dli1_number, dli1_reason, NumbersSame, ReasonsSame, CountSame}
 
 take_set : (l : List Dli1) (n : ℕ) (d : Dli1) → n < length l → take (suc n) (set l n d) ≡ take n l ++ (d ∷ [])
 take_set [] n d k = absurd (not-suc-le-zero k)

@@ -1,4 +1,6 @@
 // The DLI1s that wait in Invoked, in the order in which they came: the first, a cfnr one, and up to 14 behind it.
+#![tactic(auto)]
+
 use notice::Dli1;
 
 // `count` DLI1s wait behind the first, in the first places of `later`; each other place is all 0.

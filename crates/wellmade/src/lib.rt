@@ -1,4 +1,6 @@
 // The test behind number 3: the kind is one of the page's, and each field is as its row says.
+#![tactic(auto)]
+
 ghost use Rattle.std.specs.Prelude.{◌≡◌};
 ghost use Rattle.event.specs.WellMade.{open_fields, open_diverted_fields, call_only, answer_fields, divert_fields, outcome_fields, clock_fields, rerouting_fields, dli1_fields, message_fields, call_made, well_made};
 

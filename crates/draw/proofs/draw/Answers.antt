@@ -1,12 +1,11 @@
-use Prim.Native.Nat.{◌≤◌, ◌<◌, ◌-◌, ◌+◌}
+use Prim.Native.Nat.{◌-◌, ◌+◌}
 use mathlib.Core.Path.{◌≡◌, refl, sym, ◌∙◌}
 use native.Mathlib.Omega.{arith}
 use lib.Dec.{eqb}
-use lib.ListN.{take, length}
+use lib.ListN.{length}
 use lib.Seq.{take_all}
 use Rattle.ground.specs.Lists.{any}
 use Rattle.ground.proofs.Walks.{any_next}
-use Rattle.draw.specs.Column.{first_free_in}
 use Rattle.draw.proofs.Held.{free_step, free_found, free_none}
 use Rattle.draw.proofs.draw.Goals as goal
 

@@ -1,14 +1,9 @@
 use Prim.Native.Nat.{◌≤◌, ◌<◌, ◌-◌, ◌+◌}
-use mathlib.Core.Path.{◌≡◌, refl, sym, ◌∙◌}
-use native.Mathlib.Omega.{arith}
+use mathlib.Core.Path.{◌≡◌}
 use lib.Dec.{eqb}
-use lib.ListN.{take, length}
-use lib.Seq.{take_all}
+use lib.ListN.{take}
 use Rattle.ground.specs.Lists.{any}
-use Rattle.ground.proofs.Bools.{denied, upheld}
-use Rattle.ground.proofs.Walks.{any_next}
 use Rattle.draw.specs.Column.{first_free_in}
-use Rattle.draw.proofs.Held.{free_step, free_found, free_none}
 use Rattle.draw.proofs.draw.Given as goal
 
 abbrev pub invariant-loop-i : goal.invariant-loop-i

@@ -1,9 +1,7 @@
-use Prim.Native.Nat.{◌≤◌, ◌-◌}
-use mathlib.Core.Path.{◌≡◌, refl, sym, ◌∙◌}
+use mathlib.Core.Path.{◌≡◌}
 use native.Mathlib.Omega.{arith}
 use borrow.Author.Rules.{rules}
 use lib.ListN.{length, length-set, replicate}
-use Rattle.draw.specs.Column.{over}
 use Rattle.draw.proofs.Column.{over_next}
 use Rattle.draw.proofs.Four.{four_stored}
 use Rattle.draw.proofs.joined.Goals as goal

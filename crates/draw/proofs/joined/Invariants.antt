@@ -1,11 +1,7 @@
 use Prim.Native.Nat.{◌≤◌, ◌-◌}
-use mathlib.Core.Path.{◌≡◌, refl, sym, ◌∙◌}
-use native.Mathlib.Omega.{arith}
-use borrow.Author.Rules.{rules}
-use lib.ListN.{length, length-set, replicate}
+use mathlib.Core.Path.{◌≡◌}
+use lib.ListN.{length, replicate}
 use Rattle.draw.specs.Column.{over}
-use Rattle.draw.proofs.Column.{over_next}
-use Rattle.draw.proofs.Four.{four_stored}
 use Rattle.draw.proofs.joined.Given as goal
 
 abbrev pub invariant-loop-i : goal.invariant-loop-i

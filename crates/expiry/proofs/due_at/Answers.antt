@@ -1,4 +1,3 @@
-use borrow.Author.Rules.{rules}
 use mathlib.Core.Path.{sym, ◌∙◌}
 use Rattle.expiry.proofs.Bound.{none_under}
 use Rattle.expiry.proofs.due_at.Goals as goal

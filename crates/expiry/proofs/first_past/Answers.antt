@@ -1,15 +1,11 @@
-use Prim.Native.Nat.{◌≤◌, ◌-◌}
-use mathlib.Core.Path.{◌≡◌, refl, sym, ap, ◌∙◌}
-use mathlib.Core.Bool.{true}
+use mathlib.Core.Path.{◌≡◌, refl, sym}
 use native.Mathlib.Omega.{arith}
-use borrow.Author.Rules.{rules}
-use borrow.Author.Tests.{eq-eqb, ne_eqb, lt-ltb, le-ltb, le-leb}
-use lib.ListN.{take, length}
+use borrow.Author.Tests.{lt-ltb, le-ltb}
+use lib.ListN.{length}
 use lib.Seq.{take_all}
-use Rattle.ground.specs.Lists.{first, all}
-use Rattle.ground.proofs.Walks.{first_on, first_at, all_on}
-use Rattle.expiry.specs.Expiry.{under, at_least}
-use Rattle.expiry.proofs.Bound.{all_lower}
+use Rattle.ground.specs.Lists.{first}
+use Rattle.ground.proofs.Walks.{first_on, first_at}
+use Rattle.expiry.specs.Expiry.{under}
 use Rattle.expiry.proofs.first_past.Goals as goal
 
 pub loop-i-init : goal.loop-i-init

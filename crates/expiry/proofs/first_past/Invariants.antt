@@ -1,15 +1,8 @@
 use Prim.Native.Nat.{◌≤◌, ◌-◌}
-use mathlib.Core.Path.{◌≡◌, refl, sym, ap, ◌∙◌}
-use mathlib.Core.Bool.{true}
-use native.Mathlib.Omega.{arith}
-use borrow.Author.Rules.{rules}
-use borrow.Author.Tests.{eq-eqb, ne_eqb, lt-ltb, le-ltb, le-leb}
-use lib.ListN.{take, length}
-use lib.Seq.{take_all}
-use Rattle.ground.specs.Lists.{first, all}
-use Rattle.ground.proofs.Walks.{first_on, first_at, all_on}
-use Rattle.expiry.specs.Expiry.{under, at_least}
-use Rattle.expiry.proofs.Bound.{all_lower}
+use mathlib.Core.Path.{◌≡◌}
+use lib.ListN.{take}
+use Rattle.ground.specs.Lists.{first}
+use Rattle.expiry.specs.Expiry.{under}
 use Rattle.expiry.proofs.first_past.Given as goal
 
 abbrev pub invariant-loop-i : goal.invariant-loop-i

@@ -1,9 +1,6 @@
-use Prim.Native.Nat.{◌≤◌, ◌-◌}
 use mathlib.Core.Path.{◌≡◌, refl}
 use native.Mathlib.Omega.{arith}
-use borrow.Author.Rules.{rules}
-use lib.ListN.{take, length}
-use lib.Seq.{take_all}
+use lib.ListN.{length}
 use Rattle.expiry.specs.Expiry.{soonest_of}
 use Rattle.expiry.proofs.Bound.{soonest_on}
 use Rattle.expiry.proofs.soonest.Goals as goal

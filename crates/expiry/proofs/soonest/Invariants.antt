@@ -1,11 +1,7 @@
 use Prim.Native.Nat.{◌≤◌, ◌-◌}
-use mathlib.Core.Path.{◌≡◌, refl}
-use native.Mathlib.Omega.{arith}
-use borrow.Author.Rules.{rules}
-use lib.ListN.{take, length}
-use lib.Seq.{take_all}
+use mathlib.Core.Path.{◌≡◌}
+use lib.ListN.{take}
 use Rattle.expiry.specs.Expiry.{soonest_of}
-use Rattle.expiry.proofs.Bound.{soonest_on}
 use Rattle.expiry.proofs.soonest.Given as goal
 
 abbrev pub invariant-loop-i : goal.invariant-loop-i

@@ -1,5 +1,4 @@
 use mathlib.Core.Path.{sym, ◌∙◌}
-use borrow.Author.Rules.{rules}
 use Rattle.marks.specs.Marks.{with_request}
 use Rattle.marks.proofs.Laws.{four_idle_lem}
 use Rattle.marks.proofs.told.Goals as goal

@@ -1,9 +1,6 @@
-use Prim.Native.Nat.{◌≤◌, ◌-◌}
-use mathlib.Core.Path.{◌≡◌, refl, sym, ◌∙◌}
+use mathlib.Core.Path.{◌≡◌, refl, sym}
 use native.Mathlib.Omega.{arith}
-use borrow.Author.Rules.{rules}
-use lib.ListN.{take, length}
-use lib.Seq.{take_all}
+use lib.ListN.{length}
 use Rattle.ground.proofs.Walks.{mapped_long}
 use Rattle.waits.specs.Waits.{after_all}
 use Rattle.queue.proofs.Walk.{after_more}

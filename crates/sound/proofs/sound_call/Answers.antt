@@ -1,4 +1,3 @@
-use borrow.Author.Rules.{rules}
 use Rattle.ground.proofs.Ways.{ways}
 use Rattle.sound.proofs.Cases.{call_by}
 use Rattle.sound.proofs.sound_call.Goals as goal

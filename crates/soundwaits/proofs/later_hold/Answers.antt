@@ -1,10 +1,7 @@
-use Prim.Native.Nat.{◌≤◌, ◌-◌}
-use mathlib.Core.Bool.{◌&&◌}
 use mathlib.Core.Path.{◌≡◌, sym, ◌∙◌}
 use native.Mathlib.Omega.{arith}
-use borrow.Author.Rules.{rules}
 use lib.Dec.{leb}
-use lib.ListN.{take, length}
+use lib.ListN.{length}
 use lib.Seq.{take_all}
 use Rattle.ground.proofs.Walks.{mapped_long}
 use Rattle.ground.proofs.Bools.{and_true}

@@ -1,14 +1,9 @@
 use Prim.Native.Nat.{◌≤◌, ◌-◌}
 use mathlib.Core.Bool.{◌&&◌}
-use mathlib.Core.Path.{◌≡◌, sym, ◌∙◌}
-use native.Mathlib.Omega.{arith}
-use borrow.Author.Rules.{rules}
+use mathlib.Core.Path.{◌≡◌}
 use lib.Dec.{leb}
-use lib.ListN.{take, length}
-use lib.Seq.{take_all}
-use Rattle.ground.proofs.Walks.{mapped_long}
-use Rattle.ground.proofs.Bools.{and_true}
-use Rattle.soundwaits.proofs.Places.{places_hold, places_more, held_read}
+use lib.ListN.{take}
+use Rattle.soundwaits.proofs.Places.{places_hold}
 use Rattle.soundwaits.proofs.later_hold.Given as goal
 
 abbrev pub invariant-loop-i : goal.invariant-loop-i

@@ -1,11 +1,8 @@
-use Prim.Native.Nat.{◌+◌, ◌*◌, ◌≤◌, ◌<◌, ◌-◌}
-use mathlib.Core.Bool.{◌&&◌}
+use Prim.Native.Nat.{◌+◌, ◌*◌, ◌≤◌, ◌<◌}
 use mathlib.Core.Path.{◌≡◌, sym, ◌∙◌}
 use native.Mathlib.Omega.{arith}
 use lib.Dec.{eqb}
-use borrow.Author.Tests.{eq-eqb}
-use lib.ListN.{take, length}
-use lib.Seq.{take_all}
+use lib.ListN.{length}
 use Rattle.ground.specs.Lists.{all}
 use Rattle.ground.proofs.Walks.{mapped_long}
 use Rattle.waits.specs.Soundness.{dli1_unused}

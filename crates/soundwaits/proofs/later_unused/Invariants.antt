@@ -1,16 +1,10 @@
-use Prim.Native.Nat.{◌+◌, ◌*◌, ◌≤◌, ◌<◌, ◌-◌}
+use Prim.Native.Nat.{◌*◌, ◌≤◌, ◌-◌}
 use mathlib.Core.Bool.{◌&&◌}
-use mathlib.Core.Path.{◌≡◌, sym, ◌∙◌}
-use native.Mathlib.Omega.{arith}
+use mathlib.Core.Path.{◌≡◌}
 use lib.Dec.{eqb}
-use borrow.Author.Tests.{eq-eqb}
-use lib.ListN.{take, length}
-use lib.Seq.{take_all}
+use lib.ListN.{take}
 use Rattle.ground.specs.Lists.{all}
-use Rattle.ground.proofs.Walks.{mapped_long}
 use Rattle.waits.specs.Soundness.{dli1_unused}
-use Rattle.ground.proofs.Bools.{and_true, and_assoc}
-use Rattle.soundwaits.proofs.Places.{pair_unused, all_more}
 use Rattle.soundwaits.proofs.later_unused.Given as goal
 
 abbrev pub invariant-loop-i : goal.invariant-loop-i

@@ -1,4 +1,3 @@
-use borrow.Author.Rules.{rules}
 use Rattle.ground.proofs.Ways.{ways, asked}
 use Rattle.soundwaits.proofs.Places.{waits_by}
 use Rattle.soundwaits.proofs.waits_hold.Goals as goal

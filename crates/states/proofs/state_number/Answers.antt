@@ -1,7 +1,4 @@
 -- Each arm by the group of its kinds.
-use mathlib.Core.Logic.{⊎_elim}
-use mathlib.Core.Path.{sym, ◌∙◌}
-use borrow.Author.Rules.{rules}
 use native.Mathlib.Omega.{arith}
 use Rattle.call.specs.State.{basic_forbids, state_forbids}
 use Rattle.event.proofs.Groups.{incoming, far_end, no_incoming, past_incoming, outgoing, no_outgoing, past_outgoing}

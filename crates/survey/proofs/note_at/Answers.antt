@@ -1,5 +1,4 @@
 -- Each arm by what its case notes.
-use Rattle.std.proofs.Common.{refl}
 use borrow.Author.Tests.{ne_eqb}
 use Rattle.survey.proofs.Arms.{open_is, incoming_is, waiting_is, outgoing_is, free_is}
 use Rattle.survey.proofs.note_at.Goals as goal

@@ -1,9 +1,9 @@
 -- Each turn notes one more record, and marks its request where it is open.
-use Rattle.std.proofs.Common.{◌≡◌, ◌≤◌, ◌-◌, ◌+◌, refl, sym, ap, ◌∙◌, arith, rules, Bool, List, ℕ, length}
-use lib.ListN.{set, get_or}
+use Rattle.std.proofs.Common.{◌≡◌, ◌≤◌, ◌-◌, ◌+◌, ap, ◌∙◌, arith, Bool, List, ℕ}
+use lib.ListN.{get_or}
 use Rattle.marks.specs.Marks.{word_of}
-use Rattle.survey.specs.Survey.{any_twice, passed_with, summed_of}
-use Rattle.survey.proofs.Walk.{seen, set_by, twice_by, twice_any, twice_few, twice_none, seen_none, set_none, seen_next, set_open, set_else, twice_open, twice_else}
+use Rattle.survey.specs.Survey.{any_twice}
+use Rattle.survey.proofs.Walk.{set_by, twice_by, twice_any, twice_few, twice_none, seen_none, set_none, seen_next, set_open, set_else, twice_open, twice_else}
 use Rattle.survey.proofs.survey.Goals as goal
 
 pub loop-i-init : goal.loop-i-init
@@ -24,7 +24,7 @@ overflow_add-twice c =
     let e = c.note_at-v.ensures ∙ rw l.invariant.noted (seen_next a.q a.n a.table.now l.i one l.invariant.within c.requires) in
     let word : get_or l.marks c.word_of-w.result 0 ≡ get_or (set_by a.q a.n a.table.now l.i).1 (word_of c.note_at-v.result.identifier) 0 = rw (l.invariant.marked, c.word_of-w.ensures) in
     let more : l.twice + c.count_in-again.result ≡ twice_by a.q a.n a.table.now (l.i - 1)
-        = rw (l.invariant.counted, c.count_in-again.ensures, word) (twice_open a.q a.n a.table.now l.i one l.invariant.within c.requires _ e c.if-v.true) in
+    = rw (l.invariant.counted, c.count_in-again.ensures, word) (twice_open a.q a.n a.table.now l.i one l.invariant.within c.requires _ e c.if-v.true) in
     record { fits = omega (arith, more, twice_few a.q a.n a.table.now (l.i - 1), c.ranges.n.fits) }
 
 pub loop-i-preserved-then-v : goal.loop-i-preserved-then-v

@@ -1,9 +1,8 @@
-use Prim.Native.Nat.{◌≤◌, ◌<◌, ◌-◌, ◌+◌}
+use Prim.Native.Nat.{◌<◌, ◌-◌, ◌+◌}
 use mathlib.Core.Bool.{true}
 use mathlib.Core.List.{◌∷◌}
 use mathlib.Core.Path.{◌≡◌, refl, sym, ◌∙◌}
 use native.Mathlib.Omega.{arith}
-use borrow.Author.Rules.{rules}
 use lib.ListN.{drop, get_or, length, length-set, replicate}
 use Rattle.ground.specs.Lists.{all}
 use Rattle.table.specs.Column.{apart_in}

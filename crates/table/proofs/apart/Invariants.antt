@@ -1,14 +1,10 @@
-use Prim.Native.Nat.{◌≤◌, ◌<◌, ◌-◌, ◌+◌}
+use Prim.Native.Nat.{◌≤◌}
 use mathlib.Core.Bool.{true}
-use mathlib.Core.List.{◌∷◌}
-use mathlib.Core.Path.{◌≡◌, refl, sym, ◌∙◌}
-use native.Mathlib.Omega.{arith}
-use borrow.Author.Rules.{rules}
-use lib.ListN.{drop, get_or, length, length-set, replicate}
+use mathlib.Core.Path.{◌≡◌}
+use lib.ListN.{drop, length}
 use Rattle.ground.specs.Lists.{all}
 use Rattle.table.specs.Column.{apart_in}
-use Rattle.table.proofs.Columns.{apart_none, apart_more, apart_not, apart_past}
-use Rattle.table.proofs.Marks.{marked, marked_at, marked_past, is_marked_lem, is_none, apart_drop, apart_marked, marked_more, dropped}
+use Rattle.table.proofs.Marks.{marked}
 use Rattle.table.proofs.apart.Given as goal
 
 -- the numbers from i on are apart, and each has its mark

@@ -1,18 +1,15 @@
-use Prim.Native.Nat.{◌≤◌, ◌-◌}
-use mathlib.Core.Bool.{true}
 use mathlib.Core.Path.{◌≡◌, refl, sym, ap, ◌∙◌}
 use native.Mathlib.Omega.{arith}
 use borrow.Author.Rules.{rules}
-use lib.ListN.{take, length, length-set}
+use lib.ListN.{length, length-set}
 use Rattle.ground.specs.Lists.{all}
-use Rattle.ground.proofs.Bools.{denied, upheld}
 use Rattle.ground.proofs.Walks.{all_on, all_off}
 use Rattle.call.specs.Record.{free_call}
 use Rattle.call.proofs.Read.{unread, read_any}
 use Rattle.call.specs.Soundness.{sound_call}
 use Rattle.table.specs.Column.{apart_in}
 use Rattle.table.proofs.Columns.{column_apart}
-use Rattle.draw.specs.Column.{joined_of, column_of}
+use Rattle.draw.specs.Column.{joined_of}
 use Rattle.draw.proofs.Column.{column_next}
 use Rattle.table.proofs.sound_table.Goals as goal
 

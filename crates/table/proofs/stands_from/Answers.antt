@@ -1,10 +1,8 @@
-use Prim.Native.Nat.{◌-◌}
-use mathlib.Core.Path.{◌≡◌, refl, sym, ◌∙◌}
+use mathlib.Core.Path.{◌≡◌, sym, ◌∙◌}
 use native.Mathlib.Omega.{arith}
 use borrow.Author.Tests.{eq-eqb, ne_eqb}
 use lib.Dec.{eqb}
-use lib.ListN.{drop, length}
-use Rattle.ground.specs.Lists.{any}
+use lib.ListN.{length}
 use Rattle.table.proofs.Columns.{any_hit, any_miss, any_past}
 use Rattle.table.proofs.stands_from.Goals as goal
 

@@ -1,11 +1,8 @@
 use Prim.Native.Nat.{◌-◌}
-use mathlib.Core.Path.{◌≡◌, refl, sym, ◌∙◌}
-use native.Mathlib.Omega.{arith}
-use borrow.Author.Tests.{eq-eqb, ne_eqb}
+use mathlib.Core.Path.{◌≡◌}
 use lib.Dec.{eqb}
-use lib.ListN.{drop, length}
+use lib.ListN.{drop}
 use Rattle.ground.specs.Lists.{any}
-use Rattle.table.proofs.Columns.{any_hit, any_miss, any_past}
 use Rattle.table.proofs.stands_from.Given as goal
 
 abbrev pub invariant-loop-j : goal.invariant-loop-j
