@@ -1,4 +1,6 @@
 // Bytes and decimal numbers, written into a lent buffer.
+#![tactic(auto)]
+
 ghost use Rattle.std.specs.Prelude.{[], ◌∷◌, ◌+◌, ◌/◌, ◌%◌, ◌<◌, ◌≤◌, length};
 ghost use Rattle.digits.specs.Digits.{digit, decimal};
 ghost use Rattle.digits.specs.Written.{Written};

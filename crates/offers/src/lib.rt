@@ -1,4 +1,6 @@
 // A call is offered to the panels of a plan, one after the other, until one keeps it.
+#![tactic(auto)]
+
 ghost use Rattle.std.specs.Prelude.{◌≡◌, ◌+◌, ◌≤◌, ◌<◌, length};
 ghost use Rattle.ground.specs.Lists.{all};
 ghost use Rattle.rehearsal.specs.Plan.{panels_of, panel_ok};

@@ -1,4 +1,6 @@
 // The panels of a plan, four numbers each: what a panel does with a call that it is offered.
+#![tactic(auto)]
+
 ghost use Rattle.std.specs.Prelude.{◌≡◌, ◌+◌, ◌≤◌, length, get_or};
 ghost use Rattle.rehearsal.specs.Plan.{panel_of, panels_of, no_panel, panel_at, forwards_to, reason_of};
 

@@ -1,4 +1,6 @@
 // The two ends of reading a plan's text: nothing is read yet, and how many numbers of the lent plan are those of panels.
+#![tactic(auto)]
+
 ghost use Rattle.std.specs.Prelude.{◌≡◌};
 ghost use Rattle.plantext.specs.Text.{beginning, panels_read, numbers_lent};
 

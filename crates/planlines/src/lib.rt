@@ -1,4 +1,6 @@
 // The lines of an answer, written into a lent buffer: what the rehearsal of a plan says, or which line is no part of a plan.
+#![tactic(auto)]
+
 ghost use Rattle.std.specs.Prelude.{◌+◌, ◌*◌, ◌≤◌, length};
 ghost use Rattle.digits.specs.Written.{Written};
 ghost use Rattle.rehearsal.specs.Plan.{panels_of};

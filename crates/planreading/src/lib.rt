@@ -1,4 +1,6 @@
 // The text of a plan, read byte by byte into a lent plan.
+#![tactic(auto)]
+
 ghost use Rattle.std.specs.Prelude.{◌≡◌, ◌+◌, ◌≤◌, length};
 ghost use Rattle.digits.specs.Written.{wrote};
 ghost use Rattle.plantext.specs.Text.{onward, numbers_before, start_after, at_fault, digit_read, space_read, line_read, whole_line, newline_read, byte_read, mark_byte, packed, ends_panel, stored, text_read, plan_after, closing};

@@ -10,9 +10,9 @@ use lib.Dec.{eqb, ltb, leb}
 use lib.ListN.{length, length-append}
 use Rattle.ground.proofs.Bools.{by_cases, nor_l, nor_r, is_false, from_false}
 use Rattle.ground.proofs.Walks.{both}
-use Rattle.digits.specs.Digits.{digit, space, newline}
+use Rattle.digits.specs.Digits.{space, newline}
 use Rattle.plantext.specs.declared.Reading.{Reading}
-use Rattle.plantext.specs.Text.{beginning, numbers_before, at_fault, digit_read, space_read, whole_line, newline_read, sound, is_digit, is_newline, byte_read, text_read}
+use Rattle.plantext.specs.Text.{beginning, numbers_before, at_fault, digit_read, space_read, whole_line, newline_read, is_digit, is_newline, byte_read, text_read}
 use Rattle.plantext.specs.Form.{Digits, none, more, Number, Numbers, one, and, Lines, start, panel, whole, unended, ReadsOnly}
 use Rattle.plantext.proofs.Faults.{byte_behind, stays_faulty}
 use Rattle.plantext.proofs.LastLine.{onward_up}

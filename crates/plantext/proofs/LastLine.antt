@@ -1,17 +1,16 @@
 -- The last newline may be missing. Assumes nothing.
-use Prim.Native.Nat.{ℕ, ◌+◌, ◌≤◌, ◌<◌}
-use mathlib.Core.Bool.{Bool, true, false}
+use Prim.Native.Nat.{ℕ, ◌≤◌}
 use mathlib.Core.Logic.{◌⊎◌, inl, inr, ⊎_elim}
-use mathlib.Core.List.{List, [], ◌∷◌, ◌++◌}
-use mathlib.Core.Path.{◌≡◌, refl, sym, ap, ◌∙◌}
+use mathlib.Core.List.{List, [], ◌∷◌}
+use mathlib.Core.Path.{◌≡◌, refl, sym}
 use native.Mathlib.Omega.{arith}
-use borrow.Author.Tests.{eq-eqb, ne_eqb, lt-ltb, le-ltb, lt-leb, eqb-true, eqb-false, ltb-true, ltb-false}
-use lib.Dec.{eqb, ltb, leb}
+use borrow.Author.Tests.{eq-eqb, ne_eqb, lt-leb, eqb-true, eqb-false, ltb-false}
+use lib.Dec.{eqb, ltb}
 use Rattle.ground.specs.Choice.{when◌then◌else◌}
 use Rattle.ground.proofs.Bools.{by_cases}
 use Rattle.digits.specs.Digits.{newline}
 use Rattle.plantext.specs.declared.Reading.{Reading}
-use Rattle.plantext.specs.Text.{beginning, onward, at_fault, line_read, is_newline, whole_line, newline_read, byte_read, stored, text_read, plan_after, closing}
+use Rattle.plantext.specs.Text.{beginning, onward, at_fault, is_newline, whole_line, byte_read, stored, text_read, plan_after, closing}
 use Rattle.plantext.specs.Statements.{LastNewline}
 use Rattle.plantext.proofs.Faults.{pieces_as_one, fault_stays, byte_behind, byte_view, stays_faulty}
 

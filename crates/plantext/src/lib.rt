@@ -1,4 +1,5 @@
 // A plan's text; `planreading` reads it.
+#![tactic(auto)]
 
 // What is known behind a piece of the text. `line` is the line that is being read, from 1; `numbers` counts its numbers that are
 // whole, and `value` is the one that is being read, once its first digit is there (`begun`). Each whole number moves the ones

@@ -2,7 +2,6 @@
 use Rattle.std.specs.Prelude.{ℕ, List, [], ◌∷◌, ◌++◌, map, replicate}
 use Rattle.event.specs.declared.Event.{Event}
 use Rattle.event.specs.Kinds.{unknown, cfu, no_notification, with_number, allowed, CONNECT, OpenOutgoing, OpenIncoming, OpenWithDli2, DivertCall, ReroutingResult, Clock, ReroutingInvoke, OutgoingMessage}
-use Rattle.call.specs.declared.Call.{Call}
 use Rattle.call.specs.Record.{free_call}
 use Rattle.notice.specs.Notice.{marked}
 use Rattle.station.specs.Station.{fresh_station}

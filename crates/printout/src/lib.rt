@@ -1,4 +1,6 @@
 // The panel printout: the text of a line, written into a lent buffer.
+#![tactic(auto)]
+
 ghost use Rattle.std.specs.Prelude.{[], ◌∷◌, ◌++◌, ◌+◌, ◌≤◌, length, eqb};
 ghost use Rattle.ground.specs.Choice.{when◌then◌else◌};
 ghost use Rattle.digits.specs.Digits.{decimal, space, newline};

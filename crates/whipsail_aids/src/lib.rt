@@ -1,5 +1,7 @@
 // What a host links beside the step: a fresh station, an event read from bytes and tested, who rings tonight. A crate of its own, so a
 // compiled module of its own: a wrong version here does not prove the lent step again, and the step has the event's test to itself.
+#![tactic(auto)]
+
 ghost use Rattle.std.specs.Prelude.{◌≡◌};
 ghost use Rattle.event.specs.WellMade.{well_made};
 ghost use Rattle.station.specs.Station.{fresh_of, short_form};

@@ -1,6 +1,8 @@
 // What ties a host to its archive. The name of this function carries the version of the layout that the other functions have:
 // the header and the wrapper refer to it by that name, so one of another version does not link. A crate of its own, so that a
 // new version proves nothing else again. host/README.md has what to change then.
+#![tactic(auto)]
+
 ghost use Rattle.std.specs.Prelude.{◌≡◌};
 ghost use Rattle.whipsail_layout.specs.Format.{format};
 

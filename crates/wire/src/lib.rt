@@ -1,4 +1,6 @@
 // An event's 24 bytes, big-endian, read; what they say may be well made or not.
+#![tactic(auto)]
+
 ghost use Rattle.std.specs.Prelude.{◌≡◌, ◌+◌, ◌≤◌, length};
 ghost use Rattle.wire.specs.Record.{event_at};
 

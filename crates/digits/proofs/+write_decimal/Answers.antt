@@ -1,4 +1,4 @@
-use Rattle.std.proofs.Common.{arith, rules}
+use Rattle.std.proofs.Common.{arith}
 use Rattle.digits.proofs.Digits.{two_more, written_one, written_pair, written_two}
 use Rattle.digits.proofs.+write_decimal.Goals as goal
 

@@ -1,5 +1,4 @@
 -- `panel_at` meets its contract: four numbers to a panel (Panels). Assumes nothing.
-use borrow.Author.Rules.{rules}
 use native.Mathlib.Omega.{arith}
 use mathlib.Core.Path.{◌∙◌}
 use Rattle.rehearsal.proofs.Panels.{none_at_zero, none_past, found_at}

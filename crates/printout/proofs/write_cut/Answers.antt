@@ -1,4 +1,4 @@
-use Rattle.std.proofs.Common.{arith, ◌∙◌}
+use Rattle.std.proofs.Common.{arith}
 use Rattle.std.proofs.Math.ListN.{length-set}
 use Rattle.digits.proofs.Digits.{decimal_within}
 use Rattle.digits.proofs.Texts.{stored_four, in_three}

@@ -1,4 +1,4 @@
-use Rattle.std.proofs.Common.{arith, rules}
+use Rattle.std.proofs.Common.{arith}
 use Rattle.printout.proofs.Pieces.{column_within}
 use Rattle.digits.proofs.Texts.{and_then}
 use Rattle.printout.proofs.write_end.Goals as goal

@@ -1,4 +1,4 @@
-use Rattle.std.proofs.Common.{arith, rules}
+use Rattle.std.proofs.Common.{arith}
 use Rattle.digits.proofs.Digits.{decimal_within}
 use Rattle.printout.proofs.Pieces.{legged, unlettered}
 use Rattle.printout.proofs.write_leg.Goals as goal

@@ -1,4 +1,4 @@
-use Rattle.std.proofs.Common.{arith, rules}
+use Rattle.std.proofs.Common.{arith}
 use Rattle.digits.proofs.Texts.{in_three}
 use Rattle.printout.proofs.Pieces.{line_parts}
 use Rattle.printout.proofs.write_line.Goals as goal

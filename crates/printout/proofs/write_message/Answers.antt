@@ -1,4 +1,4 @@
-use Rattle.std.proofs.Common.{arith, rules}
+use Rattle.std.proofs.Common.{arith}
 use Rattle.printout.proofs.Pieces.{lettered, unlettered}
 use Rattle.printout.proofs.write_message.Goals as goal
 

@@ -1,4 +1,4 @@
-use Rattle.std.proofs.Common.{arith, rules, length, ◌≤◌}
+use Rattle.std.proofs.Common.{arith, length, ◌≤◌}
 use Rattle.printout.proofs.Pieces.{messages_none, messages_some}
 use Rattle.printout.proofs.write_messages.Goals as goal
 

@@ -1,4 +1,3 @@
-use borrow.Author.Rules.{rules}
 use Rattle.wire.specs.Record.{event_at}
 use Rattle.wire.proofs.event_at.Goals as goal
 
