@@ -8,7 +8,6 @@ use native.Mathlib.Omega.{arith}
 use borrow.Author.Tests.{le-ltb, lt-ltb, ltb-true, ltb-false, leb-true, not-true}
 use lib.Dec.{ltb, leb}
 use lib.ListN.{length, set, take, drop, length-take, take-append-drop}
-use Rattle.ground.specs.Choice.{when◌then◌else◌}
 use Rattle.ground.specs.Lists.{all}
 use Rattle.ground.proofs.Bools.{by_cases}
 use Rattle.ground.proofs.Walks.{both}

@@ -2,7 +2,7 @@
 use Prim.Native.Nat.{ℕ, ◌≤◌, ◌<◌}
 use mathlib.Core.Bool.{Bool, true, false}
 use mathlib.Core.List.{List}
-use mathlib.Core.Path.{◌≡◌, refl, sym, ap, ◌∙◌}
+use mathlib.Core.Path.{◌≡◌, refl, sym, ◌∙◌}
 use native.Mathlib.Omega.{arith}
 use borrow.Author.Tests.{ltb-true, ltb-false}
 use lib.Count.{count_trailing_zeros}
@@ -12,7 +12,7 @@ use Rattle.ground.specs.Choice.{when◌then◌else◌}
 use Rattle.ground.specs.Lists.{first}
 use Rattle.ground.proofs.Bools.{by_cases}
 use Rattle.event.specs.declared.Event.{Event}
-use Rattle.event.specs.Kinds.{opens, clock, diverts}
+use Rattle.event.specs.Kinds.{opens, clock}
 use Rattle.call.specs.declared.Call.{Call}
 use Rattle.call.specs.Record.{free_call, is_free}
 use Rattle.call.specs.Incoming.{due}

@@ -1,5 +1,7 @@
 // How a run holds its table: 64 records by value, of which the first `len` are the table. The one that a panel starts with, its test, and
 // where an event acts on it, by what the run keeps beside it.
+#![tactic(auto)]
+
 ghost use Rattle.std.specs.Prelude.{◌≡◌, true, ℕ, ◌≤◌, length};
 ghost use Rattle.std.specs.Int.Count.{count_trailing_zeros};
 ghost use Rattle.ground.specs.Lists.{first, all};

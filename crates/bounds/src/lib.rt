@@ -1,4 +1,6 @@
 // The test behind number 1 as far as the table's length and the station decide it; `sound` has that of one record.
+#![tactic(auto)]
+
 ghost use Rattle.std.specs.Prelude.{◌≡◌};
 ghost use Rattle.bounds.specs.Bounds.{in_bounds};
 

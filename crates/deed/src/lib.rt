@@ -1,4 +1,6 @@
 // What an event that is done on a record does to it: the rule of its kind.
+#![tactic(auto)]
+
 ghost use Rattle.std.specs.Prelude.{◌≡◌};
 ghost use Rattle.packed.specs.Messages.{effect_of};
 ghost use Rattle.deed.specs.Deed.{acted_of, Doable};

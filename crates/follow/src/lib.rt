@@ -1,5 +1,7 @@
 // One event of kinds 16 to 31 on what a station holds for them, and the clock's turn there: a request of our user's is kept and sent,
 // and ends by its answer or with its timer.
+#![tactic(auto)]
+
 ghost use Rattle.std.specs.Prelude.{◌≡◌};
 ghost use Rattle.remote.specs.Kinds.{letter_of};
 ghost use Rattle.remote.specs.Held.{with_pending, first_due};

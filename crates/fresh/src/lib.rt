@@ -1,4 +1,6 @@
 // What a station starts with, and the answer that has a number alone.
+#![tactic(auto)]
+
 ghost use Rattle.std.specs.Prelude.{◌≡◌};
 ghost use Rattle.station.specs.Station.{fresh_of, short_form, empty_answer};
 

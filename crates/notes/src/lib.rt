@@ -1,5 +1,7 @@
 // What a run keeps of its table from event to event, so that none walks through its records: which are free, when a request falls
 // due, which identifiers are held. Places past the table's end count as free records.
+#![tactic(auto)]
+
 ghost use Rattle.std.specs.Prelude.{◌≡◌, ◌≤◌};
 ghost use Rattle.draw.specs.Column.{over, frees};
 ghost use Rattle.notes.specs.Notes.{notes_of};

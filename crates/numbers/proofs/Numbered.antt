@@ -12,7 +12,7 @@ use Rattle.ground.specs.Lists.{first}
 use Rattle.ground.proofs.Bools.{by_cases, upheld}
 use Rattle.ground.proofs.Walks.{both, or_false}
 use Rattle.event.specs.declared.Event.{Event}
-use Rattle.event.specs.Kinds.{opens, of_incoming, of_outgoing, ends, clock}
+use Rattle.event.specs.Kinds.{opens, of_incoming, of_outgoing, ends}
 use Rattle.event.specs.Remote.{of_remote}
 use Rattle.event.specs.WellMade.{well_made}
 use Rattle.call.specs.declared.Call.{Call}

@@ -1,4 +1,6 @@
 // The page's order of the numbers, from 4 on: 4, 10, 11, 6, 7 and 8 of an event on a call, 11, 6 and 9 of kinds 16 to 31.
+#![tactic(auto)]
+
 ghost use Rattle.std.specs.Prelude.{◌≡◌, true, ◌≤◌};
 ghost use Rattle.event.specs.WellMade.{well_made};
 ghost use Rattle.numbers.specs.Numbers.{no_record, number_of};

@@ -1,5 +1,7 @@
 // Many events, played in place: the table is tested and summed up once, then it stays in a local array, and what an event calls
 // takes one record of it.
+#![tactic(auto)]
+
 ghost use Rattle.std.specs.Prelude.{◌≡◌, true};
 ghost use Rattle.board.specs.Board.{sound_board};
 ghost use Rattle.runs.specs.Run.{run_board};

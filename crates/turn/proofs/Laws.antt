@@ -1,10 +1,9 @@
 -- The law of a turn: what is decided on what is seen of a table is `step_on_sound` on it, on every table; with the test of the table before it, `step`. Assumes nothing.
-use Prim.Native.Nat.{ℕ, zero, suc, ◌+◌, ◌≤◌, ◌<◌}
-use mathlib.Core.Bool.{Bool, true, false, ◌&&◌, ◌||◌, not}
+use Prim.Native.Nat.{ℕ, ◌≤◌, ◌<◌}
+use mathlib.Core.Bool.{Bool, false, ◌||◌}
 use mathlib.Core.List.{List}
 use mathlib.Core.Path.{◌≡◌, refl, sym, ap, ◌∙◌}
-use native.Mathlib.Omega.{arith}
-use borrow.Author.Tests.{eq-eqb, ne_eqb, lt-ltb, le-ltb, le-leb, lt-leb, ltb-true, ltb-false, leb-true, leb-false, eqb-true, eqb-false}
+use borrow.Author.Tests.{ne_eqb, lt-ltb, le-ltb, le-leb, ltb-true, ltb-false, leb-true, leb-false, eqb-true, eqb-false}
 use lib.Dec.{eqb, ltb, leb}
 use lib.ListN.{length}
 use Rattle.ground.specs.Choice.{when◌then◌else◌}
@@ -12,7 +11,7 @@ use Rattle.ground.specs.Lists.{first}
 use Rattle.ground.proofs.Bools.{by_cases}
 use Rattle.ground.proofs.Walks.{or_true}
 use Rattle.event.specs.declared.Event.{Event}
-use Rattle.event.specs.Kinds.{opens, diverts, clock}
+use Rattle.event.specs.Kinds.{diverts}
 use Rattle.event.specs.Remote.{asks, of_remote}
 use Rattle.event.specs.WellMade.{well_made}
 use Rattle.identifier.specs.Identifier.{after}
@@ -25,7 +24,7 @@ use Rattle.remote.proofs.Roles.{step_any}
 use Rattle.station.specs.declared.Station.{Station}
 use Rattle.station.specs.Table.{at, place, identifier_for, sound}
 use Rattle.station.specs.Refusals.{refusal, refusal_on_sound}
-use Rattle.station.specs.Step.{Outcome, refused, next_after, station_after, far_moved, done, by_number, step, step_on_sound}
+use Rattle.station.specs.Step.{refused, next_after, station_after, far_moved, done, by_number, step, step_on_sound}
 use Rattle.event.proofs.Groups.{opener, no_opener}
 use Rattle.sight.specs.declared.Seen.{Seen}
 use Rattle.sight.specs.Sight.{beyond}
@@ -33,8 +32,6 @@ use Rattle.sight.proofs.Sorts.{kind_low, kind_high}
 use Rattle.numbers.specs.Numbers.{number_of}
 use Rattle.numbers.proofs.Numbered.{named_refusal, numbers, by_table, by_seen, numbers_early, numbers_ill, numbers_open, numbers_clock, numbers_named, numbers_far}
 use Rattle.outcome.specs.Outcome.{station_on}
-use Rattle.turn.specs.declared.Turn.{Turn}
-use Rattle.turn.specs.declared.Turn.TheVariants.{Refused, Far, Done}
 use Rattle.turn.specs.Turn.{seen_in, turn_of, moved_of, decided_of, outcome_of, Sees}
 
 module _ (e : Event) where

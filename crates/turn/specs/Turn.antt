@@ -1,5 +1,5 @@
 -- One event decided without the table: on what is seen of it.
-use Rattle.std.specs.Prelude.{ℕ, ◌≤◌, ◌<◌, true, ◌||◌, not, List, ◌≡◌, eqb, length, set}
+use Rattle.std.specs.Prelude.{◌≤◌, ◌<◌, true, ◌||◌, not, List, ◌≡◌, eqb, length, set}
 use Rattle.ground.specs.Choice.{when◌then◌else◌}
 use Rattle.event.specs.declared.Event.{Event}
 use Rattle.event.specs.Kinds.{diverts}

@@ -1,5 +1,7 @@
 // One event on what a driver saw of its table: refused by its number, done on what the station holds, or done on the record. No table stands here, so that
 // every driver has this one decision.
+#![tactic(auto)]
+
 ghost use Rattle.std.specs.Prelude.{◌≡◌};
 ghost use Rattle.turn.specs.Turn.{turn_of};
 

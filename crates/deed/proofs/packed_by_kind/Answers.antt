@@ -1,11 +1,8 @@
 -- Each arm by its kind: unpacked it is the rule's effect. Assumes nothing.
-use Prim.Native.Nat.{ℕ, ◌≤◌}
 use mathlib.Core.Path.{◌∙◌}
-use native.Mathlib.Omega.{arith}
 use Rattle.call.specs.Act.{act}
 use Rattle.call.specs.Incoming.{act_incoming}
 use Rattle.call.specs.Outgoing.{act_outgoing}
-use Rattle.sight.proofs.Sorts.{past_table}
 use Rattle.deed.proofs.packed_by_kind.Goals as goal
 
 pub returns-in-1 : goal.returns-in-1

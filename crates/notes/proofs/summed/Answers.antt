@@ -1,5 +1,4 @@
-use Prim.Native.Nat.{◌≤◌, ◌-◌}
-use mathlib.Core.Path.{◌≡◌, refl, sym, ap, ◌∙◌}
+use mathlib.Core.Path.{◌≡◌, refl, sym, ◌∙◌}
 use native.Mathlib.Omega.{arith}
 use borrow.Author.Rules.{rules}
 use lib.ListN.{length, get_or, length-set, get_or-replicate}
@@ -8,7 +7,7 @@ use Rattle.call.proofs.Read.{unread}
 use Rattle.draw.specs.Column.{over, frees}
 use Rattle.expiry.specs.Expiry.{soonest_of}
 use Rattle.draw.proofs.Column.{over_next, over_at, over_length}
-use Rattle.notes.proofs.Kept.{Kept, notes, kept_next, kept_may, kept_none, summed_kept}
+use Rattle.notes.proofs.Kept.{kept_next, kept_may, kept_none, summed_kept}
 use Rattle.expiry.proofs.Bound.{soonest_stored}
 use Rattle.notes.proofs.summed.Goals as goal
 

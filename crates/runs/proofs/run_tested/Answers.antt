@@ -82,16 +82,16 @@ loop-k-preserved c =
     let d = notes v.free v.soon v.dues v.held in
     let more : v.k + 1 ≤ length c.args.events.now / 24 = omega (arith, v.invariant.0) in
     elim c.match-t.branch [
-    in-Refused y ↦
-    (let k = y.in-Refused in
-    joined b c.args.events.now (length c.args.events.now / 24) (v.k + 1) v.calls v.s v.free v.soon v.dues v.held v.done (v.refused + 1) y.calls-is y.s-is y.free-is y.soon-is y.dues-is y.held-is y.done-is y.refused-is (more, playing_refused b c.args.events.now v.calls v.s d v.done v.refused v.k w e ev.ensures k.field-0 (turn_refused b v.s v.calls v.free v.soon v.dues v.held e c.requires w.beside late pl.result wi.result id.result pl.ensures wi.ensures id.ensures t.result t.ensures k.field-0 k.is), v.invariant.2))
-    | in-Far y ↦
-    (let soon = beside_soon b.len v.calls v.free v.soon v.dues v.held w.beside _ e.time y.refresh-soon.ensures in
-    joined b c.args.events.now (length c.args.events.now / 24) (v.k + 1) v.calls y.station_far-s.result v.free y.refresh-soon.result v.dues v.held (v.done + 1) v.refused y.calls-is y.s-is y.free-is y.soon-is y.dues-is y.held-is y.done-is y.refused-is (more, playing_far b c.args.events.now v.calls v.s d v.done v.refused v.k w e ev.ensures (notes v.free y.refresh-soon.result v.dues v.held) _ y.step-m.result soon (rw y.station_far-s.ensures (turn_far b v.s v.calls v.free v.soon v.dues v.held e c.requires w.beside late pl.result wi.result id.result pl.ensures wi.ensures id.ensures t.result t.ensures y.step-m.result y.in-Far.is y.step-m.ensures)), rw y.station_far-s.ensures v.invariant.2))
-    | in-Done y ↦
-    (let x = y.acted-x.result in
-    let kept = turn_beside b v.s v.calls v.free v.soon v.dues v.held e c.requires w.beside late pl.result wi.result id.result pl.ensures wi.ensures id.ensures t.result t.ensures y.in-Done.is _ _ _ _ x.call y.flip-free.ensures y.quiet_until-due.ensures y.sooner-soon.ensures y.held_by-id.ensures in
-    joined b c.args.events.now (length c.args.events.now / 24) (v.k + 1) (set v.calls wi.result x.call) y.station_on-s.result y.flip-free.result y.sooner-soon.result (set v.dues wi.result y.quiet_until-due.result) (set v.held wi.result y.held_by-id.result) (v.done + 1) v.refused y.calls-is y.s-is y.free-is y.soon-is y.dues-is y.held-is y.done-is y.refused-is (more, playing_done b c.args.events.now v.calls v.s d v.done v.refused v.k w e ev.ensures _ wi.result _ x kept (rw y.station_on-s.ensures (turn_done b v.s v.calls v.free v.soon v.dues v.held e c.requires w.beside late pl.result wi.result id.result pl.ensures wi.ensures id.ensures t.result t.ensures x y.in-Done.is y.acted-x.ensures)), rw y.station_on-s.ensures v.invariant.2))
+      | in-Refused y ↦
+          (let k = y.in-Refused in
+          joined b c.args.events.now (length c.args.events.now / 24) (v.k + 1) v.calls v.s v.free v.soon v.dues v.held v.done (v.refused + 1) y.calls-is y.s-is y.free-is y.soon-is y.dues-is y.held-is y.done-is y.refused-is (more, playing_refused b c.args.events.now v.calls v.s d v.done v.refused v.k w e ev.ensures k.field-0 (turn_refused b v.s v.calls v.free v.soon v.dues v.held e c.requires w.beside late pl.result wi.result id.result pl.ensures wi.ensures id.ensures t.result t.ensures k.field-0 k.is), v.invariant.2))
+      | in-Far y ↦
+          (let soon = beside_soon b.len v.calls v.free v.soon v.dues v.held w.beside _ e.time y.refresh-soon.ensures in
+          joined b c.args.events.now (length c.args.events.now / 24) (v.k + 1) v.calls y.station_far-s.result v.free y.refresh-soon.result v.dues v.held (v.done + 1) v.refused y.calls-is y.s-is y.free-is y.soon-is y.dues-is y.held-is y.done-is y.refused-is (more, playing_far b c.args.events.now v.calls v.s d v.done v.refused v.k w e ev.ensures (notes v.free y.refresh-soon.result v.dues v.held) _ y.step-m.result soon (rw y.station_far-s.ensures (turn_far b v.s v.calls v.free v.soon v.dues v.held e c.requires w.beside late pl.result wi.result id.result pl.ensures wi.ensures id.ensures t.result t.ensures y.step-m.result y.in-Far.is y.step-m.ensures)), rw y.station_far-s.ensures v.invariant.2))
+      | in-Done y ↦
+          (let x = y.acted-x.result in
+          let kept = turn_beside b v.s v.calls v.free v.soon v.dues v.held e c.requires w.beside late pl.result wi.result id.result pl.ensures wi.ensures id.ensures t.result t.ensures y.in-Done.is _ _ _ _ x.call y.flip-free.ensures y.quiet_until-due.ensures y.sooner-soon.ensures y.held_by-id.ensures in
+          joined b c.args.events.now (length c.args.events.now / 24) (v.k + 1) (set v.calls wi.result x.call) y.station_on-s.result y.flip-free.result y.sooner-soon.result (set v.dues wi.result y.quiet_until-due.result) (set v.held wi.result y.held_by-id.result) (v.done + 1) v.refused y.calls-is y.s-is y.free-is y.soon-is y.dues-is y.held-is y.done-is y.refused-is (more, playing_done b c.args.events.now v.calls v.s d v.done v.refused v.k w e ev.ensures _ wi.result _ x kept (rw y.station_on-s.ensures (turn_done b v.s v.calls v.free v.soon v.dues v.held e c.requires w.beside late pl.result wi.result id.result pl.ensures wi.ensures id.ensures t.result t.ensures x y.in-Done.is y.acted-x.ensures)), rw y.station_on-s.ensures v.invariant.2))
     ]
 
 pub returns : goal.returns

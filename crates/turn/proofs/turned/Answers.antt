@@ -1,7 +1,6 @@
 -- Refused, done on what the station holds, or done on the record, by the number. Assumes nothing.
 use native.Mathlib.Omega.{arith}
 use mathlib.Core.Path.{sym, ◌∙◌}
-use borrow.Author.Rules.{rules}
 use Rattle.numbers.proofs.Numbered.{number_ill}
 use Rattle.turn.proofs.Turns.{turns_early, turns_refused, turns_far, turns_there}
 use Rattle.turn.proofs.turned.Goals as goal
