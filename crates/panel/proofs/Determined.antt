@@ -3,7 +3,6 @@ use Prim.Native.Nat.{ℕ, ◌+◌, ◌*◌}
 use mathlib.Core.Path.{◌≡◌}
 use mathlib.Core.List.{List}
 use Rattle.ground.proofs.Determined.{determined}
-use Rattle.station.specs.declared.Station.{Station}
 use Rattle.board.specs.declared.Board.{Board}
 use Rattle.board.specs.Board.{table_of}
 use Rattle.printout.specs.Panel.{lines_text}

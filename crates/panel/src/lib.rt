@@ -1,4 +1,6 @@
 // The panel: a piece of the input played into a piece of the printout.
+#![tactic(auto)]
+
 ghost use Rattle.std.specs.Prelude.{◌≡◌, true, ◌+◌, ◌/◌, ◌^◌, ◌<◌, min, length};
 ghost use Rattle.board.specs.Board.{sound_board};
 ghost use Rattle.panel.specs.Play.{Plays};

@@ -1,5 +1,7 @@
 // What a host links for many events at once. A crate of its own, so a compiled module of its own: the compiler puts a
 // decision into the loop where that is its one caller in the module.
+#![tactic(auto)]
+
 ghost use Rattle.std.specs.Prelude.{◌≡◌, ℕ};
 ghost use Rattle.runs.specs.Run.{run_board};
 

@@ -82,19 +82,19 @@ loop-k-preserved c =
     let late : e.time ≤ never = omega (arith, ev.type_inv) in
     let wide : c.least-n.result * 96 ≤ length a.out.now = omega (arith, c.least-n.ensures, v.invariant.0.upto, v.invariant.0.room, v.invariant.0.same) in
     elim c.match-t.branch [
-    in-Refused y ↦
-    (let known = y.in-Refused in
-    let l = y.write_line-at in
-    joined b a.position a.bytes.now a.out.now n (v.k + 1) l.new.out v.calls v.s v.free v.soon v.dues v.held l.result y.out-is y.calls-is y.s-is y.free-is y.soon-is y.dues-is y.held-is y.at-is (playing_refused b a.position a.bytes.now a.out.now n v.s v.calls v.out v.at v.k v.invariant.0 c.loop-k-test.true e ev.ensures known.code l.new.out l.result (turn_refused b v.s v.calls v.free v.soon v.dues v.held e c.requires.0 w late pl.result wi.result id.result pl.ensures wi.ensures id.ensures t.result t.ensures known.code known.is).1 y.empty_answer-answer.result y.empty_answer-answer.ensures l.ensures.written l.ensures.upper_bound wide l.auto.out, w, v.invariant.2))
-    | in-Far y ↦
-    (let l = y.write_line-at-in-Far in
-    let soon = beside_soon b.len v.calls v.free v.soon v.dues v.held w _ e.time y.refresh-soon.ensures in
-    joined b a.position a.bytes.now a.out.now n (v.k + 1) l.new.out v.calls y.station_far-s.result v.free y.refresh-soon.result v.dues v.held l.result y.out-is y.calls-is y.s-is y.free-is y.soon-is y.dues-is y.held-is y.at-is (playing_far b a.position a.bytes.now a.out.now n v.s v.calls v.out v.at v.k v.invariant.0 c.loop-k-test.true e ev.ensures _ y.step-m.result l.new.out l.result (rw y.station_far-s.ensures (turn_far b v.s v.calls v.free v.soon v.dues v.held e c.requires.0 w late pl.result wi.result id.result pl.ensures wi.ensures id.ensures t.result t.ensures y.step-m.result y.in-Far.is y.step-m.ensures)) y.far_answer-answer.result y.far_answer-answer.ensures l.ensures.written l.ensures.upper_bound wide l.auto.out, soon, rw y.station_far-s.ensures v.invariant.2))
-    | in-Done y ↦
-    (let l = y.write_line-at-in-Done in
-    let x = y.acted-x.result in
-    let kept = turn_beside b v.s v.calls v.free v.soon v.dues v.held e c.requires.0 w late pl.result wi.result id.result pl.ensures wi.ensures id.ensures t.result t.ensures y.in-Done.is _ _ _ _ x.call y.flip-free.ensures y.quiet_until-due.ensures y.sooner-soon.ensures y.held_by-id.ensures in
-    joined b a.position a.bytes.now a.out.now n (v.k + 1) l.new.out (set v.calls wi.result x.call) y.station_on-s.result y.flip-free.result y.sooner-soon.result (set v.dues wi.result y.quiet_until-due.result) (set v.held wi.result y.held_by-id.result) l.result y.out-is y.calls-is y.s-is y.free-is y.soon-is y.dues-is y.held-is y.at-is (playing_done b a.position a.bytes.now a.out.now n v.s v.calls v.out v.at v.k v.invariant.0 c.loop-k-test.true e ev.ensures wi.result _ x l.new.out l.result (rw y.station_on-s.ensures (turn_done b v.s v.calls v.free v.soon v.dues v.held e c.requires.0 w late pl.result wi.result id.result pl.ensures wi.ensures id.ensures t.result t.ensures x y.in-Done.is y.acted-x.ensures)) y.answer_of-answer.result y.answer_of-answer.ensures l.ensures.written l.ensures.upper_bound wide l.auto.out, kept, rw y.station_on-s.ensures v.invariant.2))
+      | in-Refused y ↦
+          (let known = y.in-Refused in
+          let l = y.write_line-at in
+          joined b a.position a.bytes.now a.out.now n (v.k + 1) l.new.out v.calls v.s v.free v.soon v.dues v.held l.result y.out-is y.calls-is y.s-is y.free-is y.soon-is y.dues-is y.held-is y.at-is (playing_refused b a.position a.bytes.now a.out.now n v.s v.calls v.out v.at v.k v.invariant.0 c.loop-k-test.true e ev.ensures known.code l.new.out l.result (turn_refused b v.s v.calls v.free v.soon v.dues v.held e c.requires.0 w late pl.result wi.result id.result pl.ensures wi.ensures id.ensures t.result t.ensures known.code known.is).1 y.empty_answer-answer.result y.empty_answer-answer.ensures l.ensures.written l.ensures.upper_bound wide l.auto.out, w, v.invariant.2))
+      | in-Far y ↦
+          (let l = y.write_line-at-in-Far in
+          let soon = beside_soon b.len v.calls v.free v.soon v.dues v.held w _ e.time y.refresh-soon.ensures in
+          joined b a.position a.bytes.now a.out.now n (v.k + 1) l.new.out v.calls y.station_far-s.result v.free y.refresh-soon.result v.dues v.held l.result y.out-is y.calls-is y.s-is y.free-is y.soon-is y.dues-is y.held-is y.at-is (playing_far b a.position a.bytes.now a.out.now n v.s v.calls v.out v.at v.k v.invariant.0 c.loop-k-test.true e ev.ensures _ y.step-m.result l.new.out l.result (rw y.station_far-s.ensures (turn_far b v.s v.calls v.free v.soon v.dues v.held e c.requires.0 w late pl.result wi.result id.result pl.ensures wi.ensures id.ensures t.result t.ensures y.step-m.result y.in-Far.is y.step-m.ensures)) y.far_answer-answer.result y.far_answer-answer.ensures l.ensures.written l.ensures.upper_bound wide l.auto.out, soon, rw y.station_far-s.ensures v.invariant.2))
+      | in-Done y ↦
+          (let l = y.write_line-at-in-Done in
+          let x = y.acted-x.result in
+          let kept = turn_beside b v.s v.calls v.free v.soon v.dues v.held e c.requires.0 w late pl.result wi.result id.result pl.ensures wi.ensures id.ensures t.result t.ensures y.in-Done.is _ _ _ _ x.call y.flip-free.ensures y.quiet_until-due.ensures y.sooner-soon.ensures y.held_by-id.ensures in
+          joined b a.position a.bytes.now a.out.now n (v.k + 1) l.new.out (set v.calls wi.result x.call) y.station_on-s.result y.flip-free.result y.sooner-soon.result (set v.dues wi.result y.quiet_until-due.result) (set v.held wi.result y.held_by-id.result) l.result y.out-is y.calls-is y.s-is y.free-is y.soon-is y.dues-is y.held-is y.at-is (playing_done b a.position a.bytes.now a.out.now n v.s v.calls v.out v.at v.k v.invariant.0 c.loop-k-test.true e ev.ensures wi.result _ x l.new.out l.result (rw y.station_on-s.ensures (turn_done b v.s v.calls v.free v.soon v.dues v.held e c.requires.0 w late pl.result wi.result id.result pl.ensures wi.ensures id.ensures t.result t.ensures x y.in-Done.is y.acted-x.ensures)) y.answer_of-answer.result y.answer_of-answer.ensures l.ensures.written l.ensures.upper_bound wide l.auto.out, kept, rw y.station_on-s.ensures v.invariant.2))
     ]
 
 pub returns : goal.returns
