@@ -8,7 +8,7 @@ ghost use Rattle.notes.specs.Notes.{notes_of};
 
 use call::Call;
 
-#[derive(Drop)]
+#[derive(Clone, Copy)]
 pub struct Notes {
     pub free: u64,
     pub soon: u64,
