@@ -6,7 +6,7 @@ use waits::Waits;
 
 // What a record may hold. `waiting` are the DLI1s that wait in Invoked, and the last one's number is the party on leg 2.
 #[repr(C)]
-#[derive(Clone, Copy)]
+#[derive(Clone, Copy, Default)]
 pub struct Call {
     pub direction: u8,
     pub basic: u8,
@@ -30,7 +30,7 @@ pub struct Call {
 // A message with its leg and arguments; `diverting` is the number from which the call was diverted: DLI2's diverting number
 // and the invoke's last rerouting number; an argument that it doesn't have is 0, and so is the letter of none.
 #[repr(C)]
-#[derive(Clone, Copy)]
+#[derive(Clone, Copy, Default)]
 pub struct Message {
     pub letter: u8,
     pub leg: u8,
@@ -47,7 +47,7 @@ pub struct Message {
 
 // Up to three messages, in their order.
 #[repr(C)]
-#[derive(Clone, Copy)]
+#[derive(Clone, Copy, Default)]
 pub struct Sent {
     pub first: Message,
     pub second: Message,

@@ -3,3 +3,4 @@ pub mod Fields
 pub mod Remote
 pub mod WellMade
 pub mod Identifiers
+pub mod Refusals

@@ -1,9 +1,12 @@
 // Event records, well made or not; `wire` reads them from their bytes, `wellmade` tests their fields.
 #![tactic(auto)]
 
+ghost use Rattle.std.specs.Prelude.{◌≡◌};
+ghost use Rattle.event.specs.Refusals.{number_of};
+
 // One event; a field that its kind doesn't use is 0.
 #[repr(C)]
-#[derive(Clone, Copy)]
+#[derive(Clone, Copy, Default)]
 pub struct Event {
     pub kind: u8,
     pub call: u8,
@@ -18,4 +21,28 @@ pub struct Event {
     pub second: u16,
     pub third: u16,
     pub time: u64,
+}
+
+// Why an event is refused: "Numbers of the answers", each by its name and with its number.
+#[derive(Clone, Copy, PartialEq, Eq)]
+pub enum Refusal {
+    NotSound = 1,
+    Early = 2,
+    IllMade = 3,
+    NoSuchCall = 4,
+    OtherIdentifier = 6,
+    OverLimit = 7,
+    NoFreeRecord = 8,
+    PendingAlready = 9,
+    NotInBasicState = 10,
+    NotTaken = 11,
+}
+
+impl Refusal {
+    // The code of the answer.
+    pub fn number(self) -> u8
+        ensures { result ≡ number_of self }
+    {
+        self as u8
+    }
 }

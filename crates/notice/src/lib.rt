@@ -6,7 +6,7 @@ ghost use Rattle.notice.specs.Notice.{strictest_with, gives_notice, notice_of, r
 
 // A divertingLegInformation1: the reason, the option and the nominated number.
 #[repr(C)]
-#[derive(Clone, Copy)]
+#[derive(Clone, Copy, Default)]
 pub struct Dli1 {
     pub reason: u8,
     pub option: u8,
@@ -16,7 +16,7 @@ pub struct Dli1 {
 // All 0 before the first DLI1 of the call. `seen`, `forbidden` and `shown` are marks, 0 or 1; `shown` is of what was shown since
 // the last cfnr DLI1.
 #[repr(C)]
-#[derive(Clone, Copy)]
+#[derive(Clone, Copy, Default)]
 pub struct History {
     pub seen: u8,
     pub strictest: u8,

@@ -9,7 +9,7 @@ use timed::Pending;
 
 // The request of each sort, in the order of the sorts and of their timers T2 to T5.
 #[repr(C)]
-#[derive(Clone, Copy)]
+#[derive(Clone, Copy, Default)]
 pub struct Pendings {
     pub activation: Pending,
     pub deactivation: Pending,
@@ -19,7 +19,7 @@ pub struct Pendings {
 
 // The destination kept for each type; 0 where none stands.
 #[repr(C)]
-#[derive(Clone, Copy)]
+#[derive(Clone, Copy, Default)]
 pub struct Kept {
     pub cfu: u16,
     pub cfb: u16,
@@ -28,7 +28,7 @@ pub struct Kept {
 
 // `enabled`: remote activation; `allowed`: diversion to us.
 #[repr(C)]
-#[derive(Clone, Copy)]
+#[derive(Clone, Copy, Default)]
 pub struct Remote {
     pub pending: Pendings,
     pub kept: Kept,

@@ -6,7 +6,7 @@ ghost use Rattle.timed.specs.Timed.{idle, asked, due, unused, holds};
 
 // A request that waits: `wait` is 1, with its identifier and the time at which it was asked. Without one all is 0.
 #[repr(C)]
-#[derive(Clone, Copy)]
+#[derive(Clone, Copy, Default)]
 pub struct Pending {
     pub start: u64,
     pub identifier: u16,

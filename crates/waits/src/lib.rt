@@ -5,7 +5,7 @@ use notice::Dli1;
 
 // `count` DLI1s wait behind the first, in the first places of `later`; each other place is all 0.
 #[repr(C)]
-#[derive(Clone, Copy)]
+#[derive(Clone, Copy, Default)]
 pub struct Waits {
     pub first: Dli1,
     pub count: u8,
