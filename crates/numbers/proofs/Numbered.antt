@@ -137,7 +137,7 @@ neither_one false true n = absurd (omega (arith, n))
 neither_one false false n = (refl, refl)
 
 -- a refusal has a number
-has_number : (r : Refusal) → code_of (Err r) ≡ 0 → ⊥
+pub has_number : (r : Refusal) → code_of (Err r) ≡ 0 → ⊥
 has_number NotSound q = omega (arith, q)
 has_number Early q = omega (arith, q)
 has_number IllMade q = omega (arith, q)
