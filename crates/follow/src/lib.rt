@@ -184,8 +184,8 @@ fn taken(r: Remote, e: Event) -> bool
     ensures { result ≡ taken r e }
 {
     let made = farfields::remote_fields(e);
-    let number = holding::remote_refusal(r, e);
-    ((16 <= e.kind) & (e.kind <= 31)) & made & (number == 0)
+    let passes = holding::remote_refusal(r, e).is_ok();
+    ((16 <= e.kind) & (e.kind <= 31)) & made & passes
 }
 
 // One event here; the clock's, where no T1 request is due.
