@@ -8,11 +8,11 @@ ghost use Rattle.decision.specs.Words.{head_word, codes_word, first_word, second
 
 use call::Call;
 use change::Decision;
-use event::Event;
+use event::{Event, Refusal};
 use pick::{Input, Pick};
 use sight::Seen;
 use survey::Noted;
-use turn::Turn;
+use turn::DoneOn;
 
 // Fields side by side, as one number: the compiler reads it by one load.
 fn head_word(e: Event) -> u32
@@ -79,34 +79,27 @@ pub fn decided_on(input: Input, v: Noted, n: usize, p: Pick, c: Call) -> Decisio
     ensures { result ≡ decision_by input v n p c }
 {
     let s = input.station;
-    let event = input.event;
-    let e = held(event);
-    let well = v.sound;
-    let apart = p.apart;
-    let identifier = p.identifier;
-    let fit = bounds::in_bounds(n, s);
-    if !(fit & well & apart) {
-        return change::unchanged(1, s);
+    let e = held(input.event);
+    if !(bounds::in_bounds(n, s) & v.sound & p.apart) {
+        return change::unchanged(Refusal::NotSound.number(), s);
     }
     let place = pick::place_seen(v, input);
+    let identifier = p.identifier;
     let seen = Seen {
         len: n,
         place: place,
         identifier: identifier,
         call: c,
     };
-    let t = turn::turned(s, e, seen);
-    match t {
-        Turn::Refused(code) => {
-            return change::unchanged(code, s);
-        }
-        Turn::Far => {
+    match turn::turned(s, e, seen) {
+        Err(refusal) => change::unchanged(refusal.number(), s),
+        Ok(DoneOn::Held) => {
             let m = follow::step(s.remote, e, identifier);
-            return change::moved(m, outcome::station_far(s, e, identifier, m.remote));
+            change::moved(m, outcome::station_far(s, e, identifier, m.remote))
         }
-        Turn::Done => {
+        Ok(DoneOn::Record) => {
             let x = deed::acted(e, seen);
-            return change::changed(place, x, outcome::station_on(s, e, identifier));
+            change::changed(place, x, outcome::station_on(s, e, identifier))
         }
     }
 }
