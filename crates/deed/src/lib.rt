@@ -11,77 +11,46 @@ use packed::Packed;
 use sight::Seen;
 
 // The rule of the event's kind. Each arm packs what it hands back, before the arms are joined.
+// Stays: kinds are numbers, as the C interface has them; neighbours have an arm each, since a range is tested after all others.
+#[tactic(auto, unfolding(call::specs::Act::act, call::specs::Incoming::act_incoming, call::specs::Outgoing::act_outgoing))]
 fn packed_by_kind(e: Event, seen: Seen) -> Packed
     requires { Doable e seen }
     ensures { effect_of result ≡ acted_of e seen }
 {
-    let kind = e.kind;
     let c = seen.call;
-    match kind {
+    match e.kind {
         // "1 open outgoing"
-        1 => {
-            return packed::pack(message::silent(outgoing::opened_outgoing(e)));
-        }
+        1 => Packed::from(message::silent(outgoing::opened_outgoing(e))),
         // "2 open incoming"
-        2 => {
-            return packed::pack(message::silent(incoming::opened_incoming(e)));
-        }
+        2 => Packed::from(message::silent(incoming::opened_incoming(e))),
         // "3 open incoming with divertingLegInformation2 (DLI2)"
-        3 => {
-            return packed::pack(message::silent(incoming::opened_incoming(e)));
-        }
+        3 => Packed::from(message::silent(incoming::opened_incoming(e))),
         // "4 user alerted"
-        4 => {
-            return packed::pack(incoming::alerted(c));
-        }
+        4 => Packed::from(incoming::alerted(c)),
         // "5 user answers"
-        5 => {
-            return packed::pack(incoming::answered(c, e));
-        }
+        5 => Packed::from(incoming::answered(c, e)),
         // "6 divert"
-        6 => {
-            return packed::pack(requests::diverted(c, e, seen.identifier));
-        }
+        6 => Packed::from(requests::diverted(c, e, seen.identifier)),
         // "7 callRerouting result"
-        7 => {
-            return packed::pack(requests::granted(c));
-        }
+        7 => Packed::from(requests::granted(c)),
         // "8 callRerouting error or reject"
-        8 => {
-            return packed::pack(requests::rejected(c));
-        }
+        8 => Packed::from(requests::rejected(c)),
         // "9 cfnrDivertedLegFailed received"
-        9 => {
-            return packed::pack(requests::rejected(c));
-        }
+        9 => Packed::from(requests::rejected(c)),
         // "10 clock"
-        10 => {
-            return packed::pack(requests::expired(c));
-        }
+        10 => Packed::from(requests::expired(c)),
         // "11 own side ends the call"
-        11 => {
-            return packed::pack(ending::ended(c));
-        }
+        11 => Packed::from(ending::ended(c)),
         // "12 callRerouting invoke received"
-        12 => {
-            return packed::pack(rerouting::rerouted(c, e));
-        }
+        12 => Packed::from(rerouting::rerouted(c, e)),
         // "13 divertingLegInformation1 (DLI1) received"
-        13 => {
-            return packed::pack(outgoing::informed(c, e));
-        }
+        13 => Packed::from(outgoing::informed(c, e)),
         // "14 message on an outgoing call"
-        14 => {
-            return packed::pack(legs::messaged(c, e));
-        }
+        14 => Packed::from(legs::messaged(c, e)),
         // "15 far end ends an incoming call"
-        15 => {
-            return packed::pack(message::freed());
-        }
+        15 => Packed::from(message::freed()),
         // no other kind is done on a record
-        _ => {
-            return packed::pack(ending::ended(c));
-        }
+        _ => unreachable!(),
     }
 }
 
@@ -90,6 +59,5 @@ pub fn acted(e: Event, seen: Seen) -> Effect
     requires { Doable e seen }
     ensures { result ≡ acted_of e seen }
 {
-    let p = packed_by_kind(e, seen);
-    packed::unpack(p)
+    Effect::from(packed_by_kind(e, seen))
 }

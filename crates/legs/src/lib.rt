@@ -17,46 +17,40 @@ use notice::Noticed;
 fn hand_over(c: Call) -> Noticed
     ensures { result ≡ hand_over c }
 {
-    let history = c.history;
-    let waiting = c.waiting;
-    queue::hand_over(history, waiting)
+    queue::hand_over(c.history, c.waiting)
 }
 
 // "CDR Idle": nothing waits any more.
 fn cdr_idle(c: Call) -> Call
     ensures { result ≡ cdr_idle c }
 {
-    let none = queue::no_waits();
-    let mut d = c;
-    d.cdr = 0;
-    d.waiting = none;
-    d
+    Call {
+        cdr: 0,
+        waiting: queue::no_waits(),
+        ..c
+    }
 }
 
 // "leg 2 becomes leg 1, CDR Idle, DLI1 to the CDO", which has taken what waits.
 fn moved_over(noticed: Noticed, c: Call) -> Call
     ensures { result ≡ cdr_idle (party_is (forwarded_party c) (to_cdo noticed c)) }
 {
-    let waiting = c.waiting;
-    let party = queue::last_number(waiting);
-    let mut d = outgoing::to_cdo(noticed, c);
-    d.party = party;
-    cdr_idle(d)
+    cdr_idle(Call {
+        party: queue::last_number(c.waiting),
+        ..outgoing::to_cdo(noticed, c)
+    })
 }
 
 // "In CDO Idle a DLI3 inside ALERTING or CONNECT is passed over."
 fn with_dli3(c: Call, e: Event) -> Call
     ensures { result ≡ with_dli3 c e }
 {
-    if c.cdo == 1 {
-        let history = c.history;
-        let shown = history.take_dli3(e.flag, e.second);
-        let after = shown.history;
-        let mut d = c;
-        d.history = after;
-        d
-    } else {
-        c
+    if c.cdo != 1 {
+        return c;
+    }
+    Call {
+        history: c.history.take_dli3(e.flag, e.second).history,
+        ..c
     }
 }
 
@@ -64,10 +58,8 @@ fn with_dli3(c: Call, e: Event) -> Call
 fn number_for(c: Call, e: Event) -> u16
     ensures { result ≡ number_for c e }
 {
-    let cdo = c.cdo;
-    if cdo == 1 {
-        let history = c.history;
-        history.number_shown(e.flag, e.second)
+    if c.cdo == 1 {
+        c.history.number_shown(e.flag, e.second)
     } else {
         0
     }
@@ -77,17 +69,15 @@ fn number_for(c: Call, e: Event) -> u16
 fn after_message(e: Event, c: Call) -> Call
     ensures { result ≡ after_message e c }
 {
-    let mut d = c;
-    if e.message == 2 {
-        d.basic = 2;
-        return d;
+    match e.message {
+        2 => Call { basic: 2, ..c },
+        3 => Call {
+            basic: 3,
+            cdo: 0,
+            ..c
+        },
+        _ => c,
     }
-    if e.message == 3 {
-        d.basic = 3;
-        d.cdo = 0;
-        return d;
-    }
-    d
 }
 
 // "when leg 2 alerts, connects, or is left alone by a release of leg 1"
@@ -111,30 +101,17 @@ fn taken_over(c: Call, e: Event) -> Effect
     let noticed = hand_over(c);
     let moved = moved_over(noticed, c);
     if e.message == 4 {
-        let mut d = moved;
-        d.basic = 1;
-        let nothing = blank::no_messages();
         return Effect {
-            call: d,
-            sent: nothing,
             notice: noticed.notice,
-            number: 0,
-            identifier: message::NO_IDENTIFIER,
-            counter: 0,
+            ..message::silent(Call { basic: 1, ..moved })
         };
     }
-    let number = number_for(moved, e);
     let heard = with_dli3(moved, e);
-    let d = after_message(e, heard);
     let release = message::bare(b'X', 1);
-    let sent = message::one(release);
     Effect {
-        call: d,
-        sent: sent,
         notice: noticed.notice,
-        number: number,
-        identifier: message::NO_IDENTIFIER,
-        counter: 0,
+        number: number_for(moved, e),
+        ..message::sending(after_message(e, heard), message::one(release))
     }
 }
 
@@ -160,18 +137,10 @@ fn first_leg_sent(c: Call, e: Event) -> Sent
 fn on_first_leg(c: Call, e: Event) -> Effect
     ensures { result ≡ on_first_leg c e }
 {
-    let sent = first_leg_sent(c, e);
-    let number = number_for(c, e);
-    let connected = after_connect(c, e);
-    let heard = with_dli3(connected, e);
-    let d = after_message(e, heard);
+    let heard = with_dli3(after_connect(c, e), e);
     Effect {
-        call: d,
-        sent: sent,
-        notice: message::NO_NOTICE,
-        number: number,
-        identifier: message::NO_IDENTIFIER,
-        counter: 0,
+        number: number_for(c, e),
+        ..message::sending(after_message(e, heard), first_leg_sent(c, e))
     }
 }
 
@@ -180,9 +149,7 @@ fn leg_failed(c: Call) -> Effect
     ensures { result ≡ sending (cdr_idle c) (one (leg_failed_on 1)) }
 {
     let failed = message::bare(b'F', 1);
-    let sent = message::one(failed);
-    let d = cdr_idle(c);
-    message::sending(d, sent)
+    message::sending(cdr_idle(c), message::one(failed))
 }
 
 // "RELEASE on leg 1 in CDR Idle frees the record."

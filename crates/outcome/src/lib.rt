@@ -14,34 +14,35 @@ use station::{Answer, Station};
 pub fn station_on(s: Station, e: Event, identifier: u16) -> Station
     ensures { result ≡ station_on s e identifier }
 {
-    let mut after = s;
-    after.last = e.time;
-    let kind = e.kind;
-    if (kind == 6) | ((16 <= kind) & (kind <= 19)) {
-        after.next = identifier::next_after(identifier);
-        return after;
+    let next = match e.kind {
+        6 | 16..=19 => identifier::next_after(identifier),
+        _ => s.next,
+    };
+    Station {
+        last: e.time,
+        next,
+        ..s
     }
-    after
 }
 
 // The station after one that is done on what it holds, which is r then.
 pub fn station_far(s: Station, e: Event, identifier: u16, r: Remote) -> Station
     ensures { result ≡ station_far s e identifier r }
 {
-    let mut after = station_on(s, e, identifier);
-    after.remote = r;
-    after
+    Station {
+        remote: r,
+        ..station_on(s, e, identifier)
+    }
 }
 
 // What an event that is done on the record at i answers.
 pub fn answer_of(i: u8, x: Effect) -> Answer
     ensures { result ≡ answer_of i x }
 {
-    let sent = x.sent;
     Answer {
         code: 0,
         call: i,
-        sent: sent,
+        sent: x.sent,
         notice: x.notice,
         number: x.number,
         identifier: x.identifier,
@@ -53,11 +54,10 @@ pub fn answer_of(i: u8, x: Effect) -> Answer
 pub fn far_answer(m: Moved) -> Answer
     ensures { result ≡ far_answer m }
 {
-    let sent = message::one(m.message);
     Answer {
         code: 0,
         call: 255,
-        sent: sent,
+        sent: message::one(m.message),
         notice: message::NO_NOTICE,
         number: 0,
         identifier: m.identifier,

@@ -12,11 +12,12 @@ use notice::{Dli1, Noticed};
 pub fn opened_outgoing(e: Event) -> Call
     ensures { result ≡ opened_outgoing e }
 {
-    let mut c = blank::free_call();
-    c.direction = 1;
-    c.basic = 1;
-    c.party = e.first;
-    c
+    Call {
+        direction: 1,
+        basic: 1,
+        party: e.first,
+        ..blank::free_call()
+    }
 }
 
 // What a received DLI1 or invoke tells the own CDO.
@@ -34,28 +35,20 @@ pub fn dli1_of(e: Event) -> Dli1
 pub fn to_cdo(n: Noticed, c: Call) -> Call
     ensures { result ≡ to_cdo n c }
 {
-    let history = n.history;
-    let mut d = c;
-    d.cdo = 1;
-    d.history = history;
-    d
+    Call {
+        cdo: 1,
+        history: n.history,
+        ..c
+    }
 }
 
 // "13: .."
 pub fn informed(c: Call, e: Event) -> Effect
     ensures { result ≡ informed c e }
 {
-    let told = dli1_of(e);
-    let history = c.history;
-    let noticed = history.take_dli1(told);
-    let d = to_cdo(noticed, c);
-    let nothing = blank::no_messages();
+    let noticed = c.history.take_dli1(dli1_of(e));
     Effect {
-        call: d,
-        sent: nothing,
         notice: noticed.notice,
-        number: 0,
-        identifier: message::NO_IDENTIFIER,
-        counter: 0,
+        ..message::silent(to_cdo(noticed, c))
     }
 }

@@ -47,77 +47,73 @@ fn rest_word(m: Message) -> u64
         + 281474976710656 * (m.number as u64)
 }
 
-// The message of these words is itself.
-fn words_of(m: Message) -> Words
-    ensures { (result ≡ words_of m) × (message_of result ≡ m) }
-{
-    let head = head_word(m);
-    let rest = rest_word(m);
-    Words {
-        head: head,
-        rest: rest,
+// The words of a message; the message of these words is itself.
+impl From<Message> for Words {
+    ghost from_gives = { λ m w. (w ≡ words_of m) × (message_of w ≡ m) };
+
+    fn from(m: Message) -> Words {
+        Words {
+            head: head_word(m),
+            rest: rest_word(m),
+        }
     }
 }
 
-fn message_of(w: Words) -> Message
-    ensures { result ≡ message_of w }
-{
-    let head = w.head;
-    let rest = w.rest;
-    Message {
-        letter: (head % 256) as u8,
-        leg: (head / 256 % 256) as u8,
-        reason: (head / 65536 % 256) as u8,
-        option: (head / 16777216 % 256) as u8,
-        counter: (head / 4294967296 % 256) as u8,
-        flag: (head / 1099511627776 % 256) as u8,
-        identifier: (head / 281474976710656) as u16,
-        destination: (rest % 65536) as u16,
-        diverting: (rest / 65536 % 65536) as u16,
-        original: (rest / 4294967296 % 65536) as u16,
-        number: (rest / 281474976710656) as u16,
+impl From<Words> for Message {
+    ghost from_gives = { λ w m. m ≡ message_of w };
+
+    fn from(w: Words) -> Message {
+        let head = w.head;
+        let rest = w.rest;
+        Message {
+            letter: (head % 256) as u8,
+            leg: (head / 256 % 256) as u8,
+            reason: (head / 65536 % 256) as u8,
+            option: (head / 16777216 % 256) as u8,
+            counter: (head / 4294967296 % 256) as u8,
+            flag: (head / 1099511627776 % 256) as u8,
+            identifier: (head / 281474976710656) as u16,
+            destination: (rest % 65536) as u16,
+            diverting: (rest / 65536 % 65536) as u16,
+            original: (rest / 4294967296 % 65536) as u16,
+            number: (rest / 281474976710656) as u16,
+        }
     }
 }
 
 // The effect, packed; unpacked it is itself, which is said too since a caller doesn't know that each field fits its place in a word.
-pub fn pack(x: Effect) -> Packed
-    ensures { (result ≡ packed_of x) × (effect_of result ≡ x) }
-{
-    let call = x.call;
-    let sent = x.sent;
-    let first = words_of(sent.first);
-    let second = words_of(sent.second);
-    let third = words_of(sent.third);
-    Packed {
-        call: call,
-        first: first,
-        second: second,
-        third: third,
-        notice: x.notice,
-        number: x.number,
-        identifier: x.identifier,
-        counter: x.counter,
+impl From<Effect> for Packed {
+    ghost from_gives = { λ x p. (p ≡ packed_of x) × (effect_of p ≡ x) };
+
+    fn from(x: Effect) -> Packed {
+        Packed {
+            call: x.call,
+            first: Words::from(x.sent.first),
+            second: Words::from(x.sent.second),
+            third: Words::from(x.sent.third),
+            notice: x.notice,
+            number: x.number,
+            identifier: x.identifier,
+            counter: x.counter,
+        }
     }
 }
 
-pub fn unpack(p: Packed) -> Effect
-    ensures { result ≡ effect_of p }
-{
-    let call = p.call;
-    let first = message_of(p.first);
-    let second = message_of(p.second);
-    let third = message_of(p.third);
-    let sent = Sent {
-        first: first,
-        second: second,
-        third: third,
-    };
-    Effect {
-        call: call,
-        sent: sent,
-        notice: p.notice,
-        number: p.number,
-        identifier: p.identifier,
-        counter: p.counter,
+impl From<Packed> for Effect {
+    ghost from_gives = { λ p x. x ≡ effect_of p };
+
+    fn from(p: Packed) -> Effect {
+        Effect {
+            call: p.call,
+            sent: Sent {
+                first: Message::from(p.first),
+                second: Message::from(p.second),
+                third: Message::from(p.third),
+            },
+            notice: p.notice,
+            number: p.number,
+            identifier: p.identifier,
+            counter: p.counter,
+        }
     }
 }

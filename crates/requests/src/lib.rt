@@ -12,13 +12,14 @@ use event::Event;
 pub fn idle(c: Call) -> Call
     ensures { result ≡ idle c }
 {
-    let mut d = c;
-    d.cds = 0;
-    d.granted = 0;
-    d.identifier = 0;
-    d.reason = 0;
-    d.start = 0;
-    d
+    Call {
+        cds: 0,
+        granted: 0,
+        identifier: 0,
+        reason: 0,
+        start: 0,
+        ..c
+    }
 }
 
 // "0 if the sent counter is 1, else the stored original, or the diverting number if that is 0 (ours)"
@@ -39,28 +40,29 @@ fn invoke_of(c: Call, e: Event, identifier: u16) -> Message
     requires { c.counter < 255 }
     ensures { result ≡ invoke_of c e identifier }
 {
-    let original = original_sent(c);
-    let mut m = message::bare(b'I', 1);
-    m.reason = e.reason;
-    m.option = e.option;
-    m.counter = c.counter + 1;
-    m.identifier = identifier;
-    m.destination = e.second;
-    m.diverting = c.own;
-    m.original = original;
-    m
+    Message {
+        reason: e.reason,
+        option: e.option,
+        counter: c.counter + 1,
+        identifier,
+        destination: e.second,
+        diverting: c.own,
+        original: original_sent(c),
+        ..message::bare(b'I', 1)
+    }
 }
 
 // "Enters Requested, starts T1."
 fn asking(c: Call, e: Event, identifier: u16) -> Call
     ensures { result ≡ asking c e identifier }
 {
-    let mut d = c;
-    d.cds = 1;
-    d.reason = e.reason;
-    d.identifier = identifier;
-    d.start = e.time;
-    d
+    Call {
+        cds: 1,
+        reason: e.reason,
+        identifier,
+        start: e.time,
+        ..c
+    }
 }
 
 // "6: .."
@@ -69,15 +71,10 @@ pub fn diverted(c: Call, e: Event, identifier: u16) -> Effect
     ensures { result ≡ diverted c e identifier }
 {
     let invoke = invoke_of(c, e, identifier);
-    let sent = message::one(invoke);
-    let d = asking(c, e, identifier);
     Effect {
-        call: d,
-        sent: sent,
-        notice: message::NO_NOTICE,
-        number: 0,
         identifier: identifier as u32,
-        counter: c.counter + 1,
+        counter: invoke.counter,
+        ..message::sending(asking(c, e, identifier), message::one(invoke))
     }
 }
 
@@ -85,12 +82,13 @@ pub fn diverted(c: Call, e: Event, identifier: u16) -> Effect
 fn grant(c: Call) -> Call
     ensures { result ≡ grant c }
 {
-    let mut d = c;
-    d.cds = 0;
-    d.granted = 1;
-    d.identifier = 0;
-    d.start = 0;
-    d
+    Call {
+        cds: 0,
+        granted: 1,
+        identifier: 0,
+        start: 0,
+        ..c
+    }
 }
 
 pub fn granted(c: Call) -> Effect
@@ -109,15 +107,8 @@ pub fn rejected(c: Call) -> Effect
 pub fn expired(c: Call) -> Effect
     ensures { result ≡ expired c }
 {
-    let identifier = c.identifier as u32;
-    let d = idle(c);
-    let nothing = blank::no_messages();
     Effect {
-        call: d,
-        sent: nothing,
-        notice: message::NO_NOTICE,
-        number: 0,
-        identifier: identifier,
-        counter: 0,
+        identifier: c.identifier as u32,
+        ..message::silent(idle(c))
     }
 }

@@ -1,15 +1,13 @@
--- Where an invoke goes on in Invoked, fewer than 15 wait; what it sends. Assumes nothing.
-use Prim.Native.Nat.{ℕ}
+-- Where an invoke goes on in Invoked, fewer than 15 wait. Assumes nothing.
 use mathlib.Core.Bool.{Bool, false, not, ◌&&◌}
-use mathlib.Core.Path.{◌≡◌, sym, ap, ◌∙◌}
+use mathlib.Core.Path.{◌≡◌, sym, ◌∙◌}
 use lib.Dec.{T}
 use Rattle.ground.proofs.Bools.{and_l, and_r, nor_l, nor_r, eq→eqb, from_false}
 use Rattle.event.specs.declared.Event.{Event}
 use Rattle.waits.specs.Waits.{room}
 use Rattle.call.specs.declared.Call.{Call}
 use Rattle.call.specs.Record.{invoked}
-use Rattle.call.specs.Messages.{release_on, result_on, three}
-use Rattle.call.specs.Outgoing.{setup_on, goes_on, turns_down}
+use Rattle.call.specs.Outgoing.{goes_on, turns_down}
 use Rattle.call.proofs.Denials.{denied}
 
 pub in_room : (c : Call) (e : Event) (t : Bool) → t ≡ turns_down c e → t ≡ false → c.cdr ≡ 1 → T (room c.waiting)
@@ -18,8 +16,3 @@ in_room c e t q n i =
     let o : T (not (invoked c && not (goes_on c e))) = search (nor_l, nor_r) in
     let g : T (goes_on c e) = denied (invoked c) (goes_on c e) o (eq→eqb c.cdr 1 i) in
     search (and_l, and_r)
-
--- what is sent where an invoke goes on, by the diverting number
-pub sent_on : (identifier party diverting : ℕ) (e : Event) → party ≡ diverting
-    → three (result_on 2 identifier) (release_on 2) (setup_on 2 party e) ≡ three (result_on 2 identifier) (release_on 2) (setup_on 2 diverting e)
-sent_on identifier party diverting e q = ap (λ p. three (result_on 2 identifier) (release_on 2) (setup_on 2 p e)) q

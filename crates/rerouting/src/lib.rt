@@ -14,55 +14,48 @@ use event::Event;
 fn echo_on(letter: u8, leg: u8, identifier: u16) -> Message
     ensures { result ≡ echo_on letter leg identifier }
 {
-    let mut m = message::bare(letter, leg);
-    m.identifier = identifier;
-    m
+    Message {
+        identifier,
+        ..message::bare(letter, leg)
+    }
 }
 
 // "SETUP with DLI2 to the destination"
 fn setup_on(leg: u8, diverting: u16, e: Event) -> Message
     ensures { result ≡ setup_on leg diverting e }
 {
-    let mut m = message::bare(b'S', leg);
-    m.reason = e.reason;
-    m.counter = e.counter;
-    m.destination = e.second;
-    m.diverting = diverting;
-    m.original = e.third;
-    m
+    Message {
+        reason: e.reason,
+        counter: e.counter,
+        destination: e.second,
+        diverting,
+        original: e.third,
+        ..message::bare(b'S', leg)
+    }
 }
 
 // cfu or cfb on leg 2, and fewer than 15 wait.
 fn goes_on(c: Call, e: Event) -> bool
     ensures { result ≡ goes_on c e }
 {
-    let waiting = c.waiting;
-    let room = queue::room(waiting);
-    (e.leg == 2) & ((e.reason == 1) | (e.reason == 2)) & room
+    (e.leg == 2) & ((e.reason == 1) | (e.reason == 2)) & queue::room(c.waiting)
 }
 
 // "CDR Invoked, Active, or cfnr outside Delivered", but for what goes on in Invoked
 fn turns_down(c: Call, e: Event) -> bool
     ensures { result ≡ turns_down c e }
 {
-    let goes = goes_on(c, e);
-    ((c.cdr == 1) & !goes) | (c.basic == 3) | ((e.reason == 3) & !(c.basic == 2))
+    ((c.cdr == 1) & !goes_on(c, e)) | (c.basic == 3) | ((e.reason == 3) & (c.basic != 2))
 }
 
 // "return error on that leg, the record stays (ours)"
 fn turned_down(c: Call, e: Event) -> Effect
     ensures { result ≡ turned_down c e }
 {
-    let identifier = e.identifier as u32;
     let error = echo_on(b'E', e.leg, e.identifier);
-    let sent = message::one(error);
     Effect {
-        call: c,
-        sent: sent,
-        notice: message::NO_NOTICE,
-        number: 0,
-        identifier: identifier,
-        counter: 0,
+        identifier: e.identifier as u32,
+        ..message::sending(c, message::one(error))
     }
 }
 
@@ -90,21 +83,17 @@ fn redirected_sent(c: Call, e: Event) -> Sent
 fn redirected(c: Call, e: Event) -> Effect
     ensures { result ≡ redirected c e }
 {
-    let identifier = e.identifier as u32;
-    let sent = redirected_sent(c, e);
-    let told = outgoing::dli1_of(e);
-    let history = c.history;
-    let noticed = history.take_dli1(told);
-    let mut d = outgoing::to_cdo(noticed, c);
-    d.basic = 1;
-    d.party = e.second;
+    let noticed = c.history.take_dli1(outgoing::dli1_of(e));
+    let d = Call {
+        basic: 1,
+        party: e.second,
+        ..outgoing::to_cdo(noticed, c)
+    };
     Effect {
-        call: d,
-        sent: sent,
         notice: noticed.notice,
-        number: 0,
-        identifier: identifier,
+        identifier: e.identifier as u32,
         counter: e.counter,
+        ..message::sending(d, redirected_sent(c, e))
     }
 }
 
@@ -121,19 +110,15 @@ fn forwarded_sent(c: Call, e: Event) -> Sent
 fn forwarded(c: Call, e: Event) -> Effect
     ensures { result ≡ forwarded c e }
 {
-    let identifier = e.identifier as u32;
-    let sent = forwarded_sent(c, e);
-    let waiting = queue::waits_for(outgoing::dli1_of(e));
-    let mut d = c;
-    d.cdr = 1;
-    d.waiting = waiting;
+    let d = Call {
+        cdr: 1,
+        waiting: queue::waits_for(outgoing::dli1_of(e)),
+        ..c
+    };
     Effect {
-        call: d,
-        sent: sent,
-        notice: message::NO_NOTICE,
-        number: 0,
-        identifier: identifier,
+        identifier: e.identifier as u32,
         counter: e.counter,
+        ..message::sending(d, forwarded_sent(c, e))
     }
 }
 
@@ -141,8 +126,7 @@ fn forwarded(c: Call, e: Event) -> Effect
 fn forwarded_on_sent(c: Call, e: Event) -> Sent
     ensures { result ≡ three (result_on 2 e.identifier) (release_on 2) (setup_on 2 (forwarded_party c) e) }
 {
-    let waiting = c.waiting;
-    let party = queue::last_number(waiting);
+    let party = queue::last_number(c.waiting);
     let result = echo_on(b'R', 2, e.identifier);
     let release = message::bare(b'X', 2);
     let setup = setup_on(2, party, e);
@@ -154,20 +138,14 @@ fn forwarded_on(c: Call, e: Event) -> Effect
     requires { T (room c.waiting) }
     ensures { result ≡ forwarded_on c e }
 {
-    let identifier = e.identifier as u32;
-    let sent = forwarded_on_sent(c, e);
-    let told = outgoing::dli1_of(e);
-    let before = c.waiting;
-    let waiting = queue::waits_with(before, told);
-    let mut d = c;
-    d.waiting = waiting;
+    let d = Call {
+        waiting: queue::waits_with(c.waiting, outgoing::dli1_of(e)),
+        ..c
+    };
     Effect {
-        call: d,
-        sent: sent,
-        notice: message::NO_NOTICE,
-        number: 0,
-        identifier: identifier,
+        identifier: e.identifier as u32,
         counter: e.counter,
+        ..message::sending(d, forwarded_on_sent(c, e))
     }
 }
 
