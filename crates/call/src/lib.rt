@@ -5,6 +5,7 @@ use notice::History;
 use waits::Waits;
 
 // What a record may hold. `waiting` are the DLI1s that wait in Invoked, and the last one's number is the party on leg 2.
+// Stays: codes of states and marks, since C keeps it and lends it.
 #[repr(C)]
 #[derive(Clone, Copy, Default)]
 pub struct Call {
@@ -29,6 +30,7 @@ pub struct Call {
 
 // A message with its leg and arguments; `diverting` is the number from which the call was diverted: DLI2's diverting number
 // and the invoke's last rerouting number; an argument that it doesn't have is 0, and so is the letter of none.
+// Stays: numbers of none, since C reads it in its `Answer`.
 #[repr(C)]
 #[derive(Clone, Copy, Default)]
 pub struct Message {
@@ -46,6 +48,7 @@ pub struct Message {
 }
 
 // Up to three messages, in their order.
+// Stays: three places, each with or without a letter, since C reads it in its `Answer`.
 #[repr(C)]
 #[derive(Clone, Copy, Default)]
 pub struct Sent {
@@ -55,6 +58,7 @@ pub struct Sent {
 }
 
 // What an event does to one record: the record after it and what its answer holds.
+// Stays: numbers of none, those of the `Answer` that C reads.
 #[repr(C)]
 #[derive(Clone, Copy)]
 pub struct Effect {

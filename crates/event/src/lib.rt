@@ -5,6 +5,7 @@ ghost use Rattle.std.specs.Prelude.{◌≡◌};
 ghost use Rattle.event.specs.Refusals.{number_of};
 
 // One event; a field that its kind doesn't use is 0.
+// Stays: codes and numbers of none, since C writes it.
 #[repr(C)]
 #[derive(Clone, Copy, Default)]
 pub struct Event {

@@ -5,4 +5,3 @@ pub mod Pointwise
 pub mod Determined
 pub mod Lowest
 pub mod Zeros
-pub mod Carried

@@ -8,6 +8,6 @@ ghost use Rattle.identifier.specs.Identifier.{after};
 pub fn next_after(identifier: u16) -> u16
     ensures { result ≡ after identifier }
 {
-    let sum = std::num::wrapping_add_u16(identifier, 1);
+    let sum = identifier.wrapping_add(1);
     if sum == 0 { 1 } else { sum }
 }

@@ -8,6 +8,7 @@ ghost use Rattle.call.specs.Messages.{bare, one, two, sending, silent};
 use call::{Call, Effect, Message, Sent};
 
 // None: notice 0 is reason unknown, and 0 is an identifier. A number or a counter that an answer doesn't have is 0.
+// Stays: no Option, since C reads these numbers in its `Answer`.
 pub const NO_NOTICE: u8 = 255;
 
 pub const NO_IDENTIFIER: u32 = 65536;
@@ -16,31 +17,29 @@ pub const NO_IDENTIFIER: u32 = 65536;
 pub fn bare(letter: u8, leg: u8) -> Message
     ensures { result ≡ bare letter leg }
 {
-    let mut m = blank::no_message();
-    m.letter = letter;
-    m.leg = leg;
-    m
+    Message {
+        letter,
+        leg,
+        ..Message::default()
+    }
 }
 
 pub fn one(m: Message) -> Sent
     ensures { result ≡ one m }
 {
-    let none = blank::no_message();
     Sent {
         first: m,
-        second: none,
-        third: none,
+        ..Sent::default()
     }
 }
 
 pub fn two(a: Message, b: Message) -> Sent
     ensures { result ≡ two a b }
 {
-    let none = blank::no_message();
     Sent {
         first: a,
         second: b,
-        third: none,
+        ..Sent::default()
     }
 }
 
@@ -61,8 +60,7 @@ pub fn sending(c: Call, sent: Sent) -> Effect
 pub fn silent(c: Call) -> Effect
     ensures { result ≡ silent c }
 {
-    let nothing = blank::no_messages();
-    sending(c, nothing)
+    sending(c, blank::no_messages())
 }
 
 // The record is free, and nothing is sent.

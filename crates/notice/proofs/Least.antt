@@ -1,4 +1,4 @@
--- The smaller of two numbers, and the smallest of a list. Assumes nothing.
+-- The smallest of a list of numbers. Assumes nothing.
 use Prim.Native.Nat.{ℕ, min, ◌≤◌, ◌<◌}
 use native.Mathlib.Nat.{le_refl}
 use native.Mathlib.Omega.{arith}
@@ -10,12 +10,6 @@ use borrow.Author.Tests.{leb-true, leb-false}
 use Rattle.ground.specs.Lists.{all, any}
 use Rattle.ground.proofs.Bools.{and_l, and_r, and_i, or_inl, or_inr, from_true, eq→eqb, by_cases}
 use Rattle.notice.specs.Whole.{Least, not_zero}
-
-pub min_right : (a b : ℕ) → b < a → b ≡ min a b
-min_right a b h = omega arith
-
-pub min_left : (a b : ℕ) → a ≤ b → a ≡ min a b
-min_left a b h = omega arith
 
 -- two tests that follow from each other
 pub same_test : (a b : Bool) → (T a → T b) → (T b → T a) → a ≡ b

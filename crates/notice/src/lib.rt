@@ -15,6 +15,7 @@ pub struct Dli1 {
 
 // All 0 before the first DLI1 of the call. `seen`, `forbidden` and `shown` are marks, 0 or 1; `shown` is of what was shown since
 // the last cfnr DLI1.
+// Stays: marks of 0 and 1, since a record of the C interface (`Call`) holds them.
 #[repr(C)]
 #[derive(Clone, Copy, Default)]
 pub struct History {
@@ -26,6 +27,7 @@ pub struct History {
 }
 
 // The history after a DLI1, and the notice that it gives; 255 where it gives none, since 0 is a reason.
+// Stays: 255 for none, the byte of the answer that C reads (`Answer::notice`) and of the definition `notice_of`.
 #[repr(C)]
 #[derive(Clone, Copy)]
 pub struct Noticed {
@@ -34,6 +36,7 @@ pub struct Noticed {
 }
 
 // The history after a DLI3, and the number that it shows; 0 where it shows none.
+// Stays: 0 for none, the number of the answer that C reads (`Answer::number`) and of the definition `number_shown`.
 #[repr(C)]
 #[derive(Clone, Copy)]
 pub struct Shown {
@@ -46,11 +49,7 @@ impl History {
         ensures { result ≡ strictest_with self option }
     {
         if self.seen == 1 {
-            if option < self.strictest {
-                option
-            } else {
-                self.strictest
-            }
+            self.strictest.min(option)
         } else {
             option
         }
@@ -61,9 +60,9 @@ impl History {
     {
         let option = self.strictest_with(d.option);
         if self.seen == 1 {
-            (d.reason == 3) & !(option == 0)
+            (d.reason == 3) & (option != 0)
         } else {
-            !(d.option == 0)
+            d.option != 0
         }
     }
 
@@ -77,27 +76,25 @@ impl History {
     fn reopened(self, reason: u8) -> History
         ensures { result ≡ reopened self reason }
     {
-        let mut h = self;
         if reason == 3 {
-            h.shown = 0;
-            return h;
+            History { shown: 0, ..self }
+        } else {
+            self
         }
-        h
     }
 
     pub fn take_dli1(self, d: Dli1) -> Noticed
         ensures { result ≡ take_dli1 self d }
     {
         let notice = self.notice_of(d);
-        let mut h = self.reopened(d.reason);
-        let strictest = h.strictest_with(d.option);
-        h.seen = 1;
-        h.strictest = strictest;
-        h.nominated = d.number;
-        Noticed {
-            notice: notice,
-            history: h,
-        }
+        let h = self.reopened(d.reason);
+        let history = History {
+            seen: 1,
+            strictest: h.strictest_with(d.option),
+            nominated: d.number,
+            ..h
+        };
+        Noticed { notice, history }
     }
 
     fn may_show(self, flag: u8) -> bool
@@ -119,28 +116,25 @@ impl History {
     fn after_dli3(self, flag: u8) -> History
         ensures { result ≡ after_dli3 self flag }
     {
-        let may = self.may_show(flag);
-        let mut h = self;
         if flag == 2 {
-            h.forbidden = 1;
-            return h;
+            History {
+                forbidden: 1,
+                ..self
+            }
+        } else if self.may_show(flag) {
+            History { shown: 1, ..self }
+        } else {
+            self
         }
-        if may {
-            h.shown = 1;
-            return h;
-        }
-        h
     }
 
     // With flag 0 there is no DLI3: nothing is shown and the history stays.
     pub fn take_dli3(self, flag: u8, number: u16) -> Shown
         ensures { result ≡ take_dli3 self flag number }
     {
-        let shown = self.number_shown(flag, number);
-        let h = self.after_dli3(flag);
         Shown {
-            number: shown,
-            history: h,
+            number: self.number_shown(flag, number),
+            history: self.after_dli3(flag),
         }
     }
 }

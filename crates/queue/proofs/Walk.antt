@@ -1,9 +1,9 @@
--- One turn of a loop through the places behind the first. Assumes nothing.
-use Prim.Native.Nat.{ℕ, zero, suc, ◌+◌, ◌<◌}
+-- The places behind the first. Assumes nothing.
+use Prim.Native.Nat.{ℕ, zero, suc, ◌+◌, ◌-◌, ◌<◌}
 use mathlib.Core.List.{List, [], ◌∷◌}
 use mathlib.Core.Path.{◌≡◌, refl}
 use native.Mathlib.Nat.{le_of_suc-le-suc, not-suc-le-zero}
-use native.Mathlib.Numerals.{add-one}
+use native.Mathlib.Numerals.{add-one, unary_clauses}
 use lib.ListN.{length, get_or, take}
 use Rattle.notice.specs.declared.Dli1.{Dli1}
 use Rattle.notice.specs.declared.History.{History}
@@ -20,12 +20,9 @@ after_more' h (x ∷ l) (suc i) d k = after_more' (after_dli1 h x) l i d (le_of_
 pub after_more : (h : History) (l : List Dli1) (i : ℕ) (d : Dli1) → i < length l → after_all h (take (i + 1) l) ≡ after_dli1 (after_all h (take i l)) (get_or l i d)
 after_more h l i d k = rw add-one (after_more' h l i d k)
 
-last_at' : (f : Dli1) (l : List Dli1) (i : ℕ) (d : Dli1) → i < length l → last_after f (take (suc i) l) ≡ (get_or l i d).number
+-- the last one, or where there is none the one before them
+pub last_read : (f : Dli1) (l : List Dli1) → last_after f l ≡ (get_or l (length l - 1) f).number
 unfolding last_after
-last_at' f [] i d k = absurd (not-suc-le-zero k)
-last_at' f (x ∷ l) zero d k = refl
-last_at' f (x ∷ l) (suc i) d k = last_at' x l i d (le_of_suc-le-suc k)
-
--- the last of the first n
-pub last_at : (f : Dli1) (l : List Dli1) (i n : ℕ) (d : Dli1) → n ≡ suc i → i < length l → last_after f (take n l) ≡ (get_or l i d).number
-last_at f l i n d e k = rw e (last_at' f l i d k)
+last_read f [] = refl
+last_read f (x ∷ []) = refl
+last_read f (x ∷ y ∷ l) = simp unary_clauses (simp unary_clauses at (last_read f (y ∷ l)))

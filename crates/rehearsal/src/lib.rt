@@ -2,6 +2,7 @@
 #![tactic(auto)]
 
 // A panel: three destinations, 0 for none, and two marks, 0 or 1.
+// Stays: the numbers that C lends, four for each panel, as the definition `panel_of` reads them.
 #[derive(Clone, Copy)]
 pub struct Panel {
     pub cfu: u16,
@@ -13,6 +14,7 @@ pub struct Panel {
 
 // The answer. `code` is 0, or 3 where the plan is refused; `ending` is 1 rings, 2 busy, 3 limit; where it is refused both
 // ending and last panel are 0 and the counter is 255, since 0 is a counter.
+// Stays: codes beside the numbers and no Result, since C reads it.
 #[repr(C)]
 #[derive(Clone, Copy)]
 pub struct Rehearsed {

@@ -9,6 +9,7 @@ use event::Event;
 
 // What an event needs of a table: its length, the place where the event acts (from the length on where there is none), the
 // identifier that a request would take, and the record at the place.
+// Stays: no Option, since in the definition a place past the end is none, and so is that of an event that names no call.
 #[derive(Clone, Copy)]
 pub struct Seen {
     pub len: usize,
@@ -21,12 +22,9 @@ pub struct Seen {
 pub fn place_of(e: Event, free: usize, due: usize) -> usize
     ensures { result ≡ place_of e free due }
 {
-    let kind = e.kind;
-    if (1 <= kind) & (kind <= 3) {
-        return free;
+    match e.kind {
+        1..=3 => free,
+        10 => due,
+        _ => e.call as usize,
     }
-    if kind == 10 {
-        return due;
-    }
-    e.call as usize
 }

@@ -4,6 +4,7 @@
 use notice::Dli1;
 
 // `count` DLI1s wait behind the first, in the first places of `later`; each other place is all 0.
+// Stays: a count beside fixed places, since C lends it in its calls and there is no heap.
 #[repr(C)]
 #[derive(Clone, Copy, Default)]
 pub struct Waits {

@@ -6,13 +6,14 @@ ghost use Rattle.std.specs.Prelude.{◌≡◌};
 ghost use Rattle.event.specs.WellMade.{well_made};
 ghost use Rattle.station.specs.Station.{fresh_of, short_form};
 ghost use Rattle.rehearsal.specs.Rehearsal.{rehearsal_of};
-ghost use Rattle.whipsail_aids.specs.Read.{not_read, read_at};
+ghost use Rattle.whipsail_aids.specs.Read.{read_at};
 
 use event::Event;
 use rehearsal::Rehearsed;
 use station::{Made, Station};
 
 // The event at a place among bytes; `whole` is 1, or 0 where fewer than 24 bytes are left: then no event is read (all 0).
+// Stays: a mark beside the event and no Option, since C reads it.
 #[repr(C)]
 #[derive(Clone, Copy)]
 pub struct Read {
@@ -36,46 +37,20 @@ pub extern "C" fn whipsail_fresh_short() -> Station
     fresh::fresh_short()
 }
 
-fn no_event() -> Read
-    ensures { result ≡ not_read }
-{
-    let event = Event {
-        kind: 0,
-        call: 0,
-        leg: 0,
-        message: 0,
-        reason: 0,
-        option: 0,
-        counter: 0,
-        flag: 0,
-        identifier: 0,
-        first: 0,
-        second: 0,
-        third: 0,
-        time: 0,
-    };
-    Read {
-        whole: 0,
-        event: event,
-    }
-}
-
 // The event whose 24 bytes start at i.
 #[unsafe(no_mangle)]
 pub extern "C" fn whipsail_event_at(bytes: &[u8], i: usize) -> Read
     ensures { result ≡ read_at bytes.now i }
 {
-    let n = bytes.len();
-    if n < 24 {
-        return no_event();
-    }
-    if n - 24 < i {
-        return no_event();
-    }
-    let event = wire::event_at(bytes, i);
-    Read {
-        whole: 1,
-        event: event,
+    match bytes.len().checked_sub(24) {
+        Some(last) if i <= last => Read {
+            whole: 1,
+            event: wire::event_at(bytes, i),
+        },
+        _ => Read {
+            whole: 0,
+            event: Event::default(),
+        },
     }
 }
 

@@ -11,11 +11,6 @@ pub fn event_at(bytes: &[u8], i: usize) -> Event
     requires { i + 24 ≤ length bytes.now }
     ensures { result ≡ event_at bytes.now i }
 {
-    let identifier = ground::word_at(bytes, i + 8);
-    let first = ground::word_at(bytes, i + 10);
-    let second = ground::word_at(bytes, i + 12);
-    let third = ground::word_at(bytes, i + 14);
-    let time = ground::long_at(bytes, i + 16);
     Event {
         kind: bytes[i],
         call: bytes[i + 1],
@@ -25,10 +20,10 @@ pub fn event_at(bytes: &[u8], i: usize) -> Event
         option: bytes[i + 5],
         counter: bytes[i + 6],
         flag: bytes[i + 7],
-        identifier: identifier,
-        first: first,
-        second: second,
-        third: third,
-        time: time,
+        identifier: ground::word_at(bytes, i + 8),
+        first: ground::word_at(bytes, i + 10),
+        second: ground::word_at(bytes, i + 12),
+        third: ground::word_at(bytes, i + 14),
+        time: ground::long_at(bytes, i + 16),
     }
 }

@@ -1,21 +1,13 @@
-use mathlib.Core.Path.{◌≡◌, refl, sym}
-use native.Mathlib.Omega.{arith}
-use lib.ListN.{length}
-use Rattle.ground.proofs.Walks.{mapped_long}
+use Rattle.std.proofs.Common.{refl, sym, arith}
 use Rattle.waits.specs.Waits.{after_all}
 use Rattle.queue.proofs.Walk.{after_more}
 use Rattle.queue.proofs.after_later.Goals as goal
 
-pub loop-i-init : goal.loop-i-init
+pub loop-d-init : goal.loop-d-init
 unfolding after_all
-loop-i-init c = record { waiting = omega arith; places = omega arith; heard = refl }
+loop-d-init c = record { heard = refl }
 
-pub loop-i-preserved : goal.loop-i-preserved
-loop-i-preserved c =
-    let l = c.args.w.later in
-    let long : length l ≡ 14 = search mapped_long in
-    record {
-      waiting = omega arith;
-      places = omega arith;
-      heard = rw (c.take_dli1-noticed.ensures, c.loop-i.invariant.heard) (sym (after_more _ l c.loop-i.i _ (omega arith)));
-    }
+pub loop-d-preserved : goal.loop-d-preserved
+loop-d-preserved c = record {
+  heard = rw (c.take_dli1.ensures, c.loop-d.invariant.heard) (sym (after_more _ c.behind-d-items.result.now c.loop-d.d-index _ (omega arith)));
+}
