@@ -16,7 +16,7 @@ use Rattle.ground.proofs.Bools.{by_cases}
 found_same : {A : Type 0} (p : A → Bool) (l : List A) → position_or_len p l ≡ first p l
 unfolding first
 found_same p [] = refl
-found_same p (x ∷ xs) = by_cases (p x) (λ t. rw t) (λ f. rw (f, first_same p xs) (omega arith))
+found_same p (x ∷ xs) = by_cases (p x) (λ t. rw t) (λ f. rw (f, found_same p xs) (omega arith))
 
 -- where it finds none it is the length
 pub first_found : {A : Type 0} (p : A → Bool) (l : List A) (n : ℕ) → length l ≡ n → unwrap_or (position p l) n ≡ first p l
