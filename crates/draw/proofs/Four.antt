@@ -6,8 +6,7 @@ use mathlib.Core.Path.{◌≡◌, refl, ap, ◌∙◌}
 use native.Mathlib.Omega.{arith}
 use borrow.Author.Tests.{ne_eqb}
 use lib.Dec.{eqb}
-use lib.ListN.{length, set, replicate}
-use lib.Seq.{take_all}
+use lib.ListN.{length, set}
 use Rattle.ground.specs.Choice.{when◌then◌else◌}
 use Rattle.ground.specs.Lists.{any}
 use Rattle.identifier.specs.Identifier.{after, taken, first_free}
@@ -16,7 +15,7 @@ use Rattle.call.specs.declared.Call.{Call}
 use Rattle.remote.specs.declared.Pendings.{Pendings}
 use Rattle.remote.specs.Held.{timers_of}
 use Rattle.station.specs.Table.{requests_of}
-use Rattle.draw.specs.Column.{over, held_of, held_by, four_of, joined_of, first_free_in}
+use Rattle.draw.specs.Column.{held_of, held_by, four_of, joined_of, first_free_in}
 use Rattle.draw.proofs.Held.{same_number, held_taken}
 
 set_behind : (l b : List ℕ) (i n x : ℕ) → n ≡ length l + i → set (l ++ b) n x ≡ l ++ set b i x
@@ -25,10 +24,9 @@ set_behind (y ∷ ys) b i zero x e = absurd (omega (arith, e))
 set_behind (y ∷ ys) b i (suc n) x e = ap (λ (r : List ℕ). y ∷ r) (set_behind ys b i n x (omega (arith, e)))
 
 pub four_stored : (l : List ℕ) (a b c d : ℕ) → length l ≡ 64
-    → set (set (set (set (over 64 l (replicate 68 0)) 64 a) 65 b) 66 c) 67 d ≡ l ++ (a ∷ b ∷ c ∷ d ∷ [])
+    → set (set (set (set (l ++ (0 ∷ 0 ∷ 0 ∷ 0 ∷ [])) 64 a) 65 b) 66 c) 67 d ≡ l ++ (a ∷ b ∷ c ∷ d ∷ [])
 four_stored l a b c d e =
     rw (
-      take_all 64 l (omega (arith, e)),
       set_behind l (0 ∷ 0 ∷ 0 ∷ 0 ∷ []) 0 64 a (omega (arith, e)),
       set_behind l (a ∷ 0 ∷ 0 ∷ 0 ∷ []) 1 65 b (omega (arith, e)),
       set_behind l (a ∷ b ∷ 0 ∷ 0 ∷ []) 2 66 c (omega (arith, e)),

@@ -1,2 +1,3 @@
 pub mod Bound
 pub mod Due
+pub mod Past

@@ -2,7 +2,7 @@
 // that share a mark may differ.
 #![tactic(auto)]
 
-ghost use Rattle.std.specs.Prelude.{◌≡◌, length};
+ghost use Rattle.std.specs.Prelude.{◌≡◌};
 ghost use Rattle.marks.specs.Marks.{word_of, count_in, set_in, put_in, is_marked, marks_with, twice_in, with_four, told_of};
 
 use remote::Pendings;
@@ -42,31 +42,25 @@ pub fn put_in(word: u64, identifier: u16) -> u64
 fn set_in(word: u64, identifier: u16) -> bool
     ensures { result ≡ set_in word identifier }
 {
-    let n = count_in(word, identifier);
-    n == 1
+    count_in(word, identifier) == 1
 }
 
 // Whether the mark of an identifier is set.
 fn is_marked(marks: &[u64; 8], identifier: u16) -> bool
-    requires { length marks.now ≡ 8 }
     ensures { result ≡ is_marked marks.now identifier }
 {
-    let w = word_of(identifier);
-    let word = marks[w];
-    set_in(word, identifier)
+    set_in(marks[word_of(identifier)], identifier)
 }
 
 // Sets the mark of a request that waits, and tells whether it was set before.
 fn mark(marks: &mut [u64; 8], p: Pending) -> bool
-    requires { length marks.old ≡ 8 }
-    ensures { (result ≡ twice_in marks.old p) × (marks.new ≡ marks_with marks.old p) × (length marks.new ≡ 8) }
+    ensures { (result ≡ twice_in marks.old p) × (marks.new ≡ marks_with marks.old p) }
 {
     if p.wait == 1 {
         let identifier = p.identifier;
         let w = word_of(identifier);
         let word = marks[w];
-        let more = put_in(word, identifier);
-        marks[w] = more;
+        marks[w] = put_in(word, identifier);
         return set_in(word, identifier);
     }
     false
@@ -78,19 +72,15 @@ pub fn told(clash: bool, marks: [u64; 8], p: Pendings, identifier: u16) -> Marke
 {
     if holding::four_idle(p) {
         let marked = is_marked(&marks, identifier);
-        return Marked {
-            clash: clash,
-            marked: marked,
-        };
+        return Marked { clash, marked };
     }
     let mut all = marks;
     let activation = mark(&mut all, p.activation);
     let deactivation = mark(&mut all, p.deactivation);
     let interrogation = mark(&mut all, p.interrogation);
     let check = mark(&mut all, p.check);
-    let marked = is_marked(&all, identifier);
     Marked {
         clash: clash | activation | deactivation | interrogation | check,
-        marked: marked,
+        marked: is_marked(&all, identifier),
     }
 }

@@ -21,25 +21,22 @@ pub fn summed(calls: [Call; 64], len: usize) -> Notes
     requires { len ≤ 64 }
     ensures { result ≡ notes_of (over len calls frees) }
 {
-    let mut free: u64 = 18446744073709551615;
-    let mut soon: u64 = 18446744073709551615;
-    let mut dues = [18446744073709551615u64; 64];
+    let mut free = u64::MAX;
+    let mut soon = u64::MAX;
+    let mut dues = [u64::MAX; 64];
     let mut held = [0u32; 64];
-    let mut i: usize = 0;
-    while i < len {
+    for i in 0..len {
         let d = calls[i];
         free = bits::flip(free, i, 0, d.direction);
         let due = expiry::quiet_until(d);
         dues[i] = due;
-        soon = expiry::sooner(soon, due);
-        let id = draw::held_by(d);
-        held[i] = id;
-        i += 1;
+        soon = soon.min(due);
+        held[i] = draw::held_by(d);
     }
     Notes {
-        free: free,
-        soon: soon,
-        dues: dues,
-        held: held,
+        free,
+        soon,
+        dues,
+        held,
     }
 }

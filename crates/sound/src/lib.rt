@@ -16,10 +16,11 @@ use notice::History;
 fn legs_word(c: Call) -> u64
     ensures { result ≡ legs_word c }
 {
-    (c.cdo as u64) + 256 * (c.cdr as u64)
+    u16::from_le_bytes([c.cdo, c.cdr]) as u64
 }
 
 // The party on leg 1, and the history.
+// Stays: `from_le_bytes`, here and in the two words of numbers, would take the numbers apart into bytes before it joins them, and is no plainer.
 fn party_word(c: Call) -> u64
     ensures { result ≡ party_word c }
 {
@@ -36,33 +37,24 @@ fn party_word(c: Call) -> u64
 fn codes_word(c: Call) -> u64
     ensures { result ≡ codes_word c }
 {
-    (c.cds as u64)
-        + 256 * (c.cdf as u64)
-        + 65536 * (c.granted as u64)
-        + 16777216 * (c.counter as u64)
+    u32::from_le_bytes([c.cds, c.cdf, c.granted, c.counter]) as u64
 }
 
 // The numbers of an incoming call, and its identifier.
 fn numbers_word(c: Call) -> u64
     ensures { result ≡ numbers_word c }
 {
-    let own = c.own;
-    let diverting = c.diverting;
-    let original = c.original;
-    let identifier = c.identifier;
-    (own as u64)
-        + 65536 * (diverting as u64)
-        + 4294967296 * (original as u64)
-        + 281474976710656 * (identifier as u64)
+    (c.own as u64)
+        + 65536 * (c.diverting as u64)
+        + 4294967296 * (c.original as u64)
+        + 281474976710656 * (c.identifier as u64)
 }
 
 // Those of a diversion before.
 fn past_word(c: Call) -> u64
     ensures { result ≡ past_word c }
 {
-    let diverting = c.diverting;
-    let original = c.original;
-    (diverting as u64) + 65536 * (original as u64)
+    (c.diverting as u64) + 65536 * (c.original as u64)
 }
 
 // All that only an outgoing call has is 0.
@@ -102,7 +94,7 @@ fn diverted_holds(c: Call) -> bool
         let past = past_word(c);
         return (cdf == 0) & (past == 0);
     }
-    (counter <= 15) & ((cdf == 2) | ((cdf == 1) & !(c.basic == 3)))
+    (counter <= 15) & ((cdf == 2) | ((cdf == 1) & (c.basic != 3)))
 }
 
 // No request is open: one was granted, or none was.
@@ -112,10 +104,7 @@ fn closed_holds(c: Call) -> bool
     let cds = c.cds;
     let granted = c.granted;
     if granted == 1 {
-        if (cds == 0) & (c.identifier == 0) & (c.start == 0) {
-            return reasons::fits(c.reason, c);
-        }
-        return false;
+        return (cds == 0) & (c.identifier == 0) & (c.start == 0) && reasons::fits(c.reason, c);
     }
     (cds == 0) & (granted == 0) & (c.reason == 0) & (c.identifier == 0) & (c.start == 0)
 }
@@ -124,10 +113,7 @@ fn closed_holds(c: Call) -> bool
 fn request_holds(c: Call, last: u64) -> bool
     ensures { result ≡ request_by last c }
 {
-    if (c.granted == 0) & !(c.identifier == 0) & (c.start <= last) {
-        return reasons::fits(c.reason, c);
-    }
-    false
+    (c.granted == 0) & (c.identifier != 0) & (c.start <= last) && reasons::fits(c.reason, c)
 }
 
 // What holds of each incoming call's record beside its basic state. With an open request no more is asked of the state than that the reason fits it: such a one is in range.
@@ -135,7 +121,7 @@ fn open_base(c: Call) -> bool
     ensures { result ≡ open_base c }
 {
     let unused = outgoing_unused(c);
-    unused & !(c.own == 0)
+    unused & (c.own != 0)
 }
 
 // What holds of each incoming call's record.
@@ -144,7 +130,7 @@ fn incoming_base(c: Call) -> bool
 {
     let unused = outgoing_unused(c);
     let basic = c.basic;
-    unused & ((1 <= basic) & (basic <= 3)) & !(c.own == 0)
+    unused & ((1 <= basic) & (basic <= 3)) & (c.own != 0)
 }
 
 // The short case: neither diverted nor a request, so nothing else is there.
@@ -160,30 +146,20 @@ fn incoming_rest(c: Call) -> bool
 pub fn sound_open(c: Call, last: u64) -> bool
     ensures { result ≡ open_by last c }
 {
-    if open_base(c) {
-        if diverted_holds(c) {
-            return request_holds(c, last);
-        }
-        return false;
-    }
-    false
+    open_base(c) && diverted_holds(c) && request_holds(c, last)
 }
 
 // of one without.
 pub fn sound_incoming(c: Call) -> bool
     ensures { result ≡ incoming_by c }
 {
-    if incoming_base(c) {
-        let codes = codes_word(c);
-        if codes == 0 {
-            return incoming_rest(c);
-        }
-        if diverted_holds(c) {
-            return closed_holds(c);
-        }
+    if !incoming_base(c) {
         return false;
     }
-    false
+    if codes_word(c) == 0 {
+        return incoming_rest(c);
+    }
+    diverted_holds(c) && closed_holds(c)
 }
 
 // "each code is in range"
@@ -198,7 +174,7 @@ fn history_holds(h: History) -> bool
     ensures { result ≡ history_holds h }
 {
     if h.seen == 1 {
-        (h.strictest <= 2) & (h.forbidden <= 1) & (h.shown <= 1) & !(h.nominated == 0)
+        (h.strictest <= 2) & (h.forbidden <= 1) & (h.shown <= 1) & (h.nominated != 0)
     } else {
         history_unused(h)
     }
@@ -209,7 +185,7 @@ fn divert_holds(c: Call) -> bool
     ensures { result ≡ divert_holds c }
 {
     let divert = c.cdo == 1;
-    let told = (c.history.seen == 1) & !(c.basic == 3);
+    let told = (c.history.seen == 1) & (c.basic != 3);
     (divert & told) | (!divert & !told)
 }
 
@@ -219,18 +195,14 @@ fn outgoing_base(c: Call) -> bool
 {
     let unused = incoming_unused(c);
     let codes = outgoing_codes(c);
-    unused & codes & !(c.party == 0)
+    unused & codes & (c.party != 0)
 }
 
 // What holds of the history beside CDO.
 fn told_holds(c: Call) -> bool
     ensures { result ≡ told_by c }
 {
-    let history = c.history;
-    if history_holds(history) {
-        return divert_holds(c);
-    }
-    false
+    history_holds(c.history) && divert_holds(c)
 }
 
 // "CDR is Invoked only in Delivered and with reason cfnr"
@@ -245,27 +217,14 @@ fn delivered_holds(c: Call) -> bool
 pub fn sound_waiting(c: Call) -> bool
     ensures { result ≡ waiting_by c }
 {
-    if outgoing_base(c) {
-        if delivered_holds(c) {
-            return told_holds(c);
-        }
-        return false;
-    }
-    false
+    outgoing_base(c) && delivered_holds(c) && told_holds(c)
 }
 
 // of one outside Invoked, in which none may wait.
 pub fn sound_outgoing(c: Call) -> bool
     ensures { result ≡ outgoing_by c }
 {
-    let waiting = c.waiting;
-    if outgoing_base(c) {
-        if soundwaits::waits_unused(waiting) {
-            return told_holds(c);
-        }
-        return false;
-    }
-    false
+    outgoing_base(c) && soundwaits::waits_unused(c.waiting) && told_holds(c)
 }
 
 // "A record is free": each field is 0. One whose direction is out of range is unsound.

@@ -9,6 +9,7 @@ use notice::Dli1;
 use waits::Waits;
 
 // The fields side by side, as one number: the compiler reads it by one load.
+// Stays: `from_le_bytes`, here and in `pair_word`, would take the numbers apart into bytes before it joins them, and is no plainer.
 fn dli1_word(d: Dli1) -> u32
     ensures { result ≡ dli1_word d }
 {
@@ -25,13 +26,13 @@ fn dli1_unused(d: Dli1) -> bool
 fn first_holds(d: Dli1) -> bool
     ensures { result ≡ first_holds d }
 {
-    (d.reason == 3) & (d.option <= 2) & !(d.number == 0)
+    (d.reason == 3) & (d.option <= 2) & (d.number != 0)
 }
 
 fn later_holds(d: Dli1) -> bool
     ensures { result ≡ later_holds d }
 {
-    ((d.reason == 1) | (d.reason == 2)) & (d.option <= 2) & !(d.number == 0)
+    ((d.reason == 1) | (d.reason == 2)) & (d.option <= 2) & (d.number != 0)
 }
 
 // What the place i behind the first may hold, where n wait there.
@@ -50,11 +51,8 @@ fn later_hold(w: Waits) -> bool
 {
     let n = w.count as usize;
     let mut ok = n <= 14;
-    let mut i: usize = 0;
-    while i < 14 {
-        let d = w.later[i];
-        ok = ok & place_holds(n, i, d);
-        i += 1;
+    for (i, d) in w.later.iter().enumerate() {
+        ok &= place_holds(n, i, *d);
     }
     ok
 }
@@ -75,13 +73,9 @@ fn later_unused(w: Waits) -> bool
     ensures { result ≡ later_unused w }
 {
     let mut ok = w.count == 0;
-    let mut i: usize = 0;
-    while i < 7 {
-        let a = w.later[2 * i];
-        let b = w.later[2 * i + 1];
-        let word = pair_word(a, b);
-        ok = ok & (word == 0);
-        i += 1;
+    for i in 0..7 {
+        let word = pair_word(w.later[2 * i], w.later[2 * i + 1]);
+        ok &= word == 0;
     }
     ok
 }
@@ -91,14 +85,14 @@ pub fn waits_hold(w: Waits) -> bool
     ensures { result ≡ waits_hold w }
 {
     let first = w.first;
-    let count = w.count;
-    if first_holds(first) {
-        if count == 0 {
-            return later_unused(w);
-        }
-        return later_hold(w);
+    if !first_holds(first) {
+        return false;
     }
-    false
+    if w.count == 0 {
+        later_unused(w)
+    } else {
+        later_hold(w)
+    }
 }
 
 // None waits.

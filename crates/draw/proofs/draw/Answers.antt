@@ -9,40 +9,39 @@ use Rattle.ground.proofs.Walks.{any_next}
 use Rattle.draw.proofs.Held.{free_step, free_found, free_none}
 use Rattle.draw.proofs.draw.Goals as goal
 
-pub loop-i-init : goal.loop-i-init
+pub loop-id-init : goal.loop-id-init
 unfolding any
-loop-i-init c = (omega arith, refl)
+loop-id-init c = refl
 
-pub loop-i-preserved : goal.loop-i-preserved
-loop-i-preserved c =
+pub loop-id-preserved : goal.loop-id-preserved
+loop-id-preserved c =
     let k = c.candidate in
     let l = c.args.held.now in
     let long : length l ≡ 68 = omega arith in
-    (omega arith, rw c.loop-i.invariant.1 (sym (any_next (eqb (k.candidate + 1)) l c.loop-i.i 0 (omega arith))))
+    rw c.loop-id.invariant (sym (any_next (eqb (k.candidate + 1)) l c.loop-id.id-index 0 (omega arith)))
 
 pub candidate-preserved : goal.candidate-preserved
 candidate-preserved c =
     let k = c.candidate in
     let l = c.args.held.now in
     let long : length l ≡ 68 = omega arith in
-    let e : c.loop-i.i ≡ 68 = omega arith in
-    let hit = sym (rw (e, take_all 68 l (omega arith)) at c.loop-i.invariant.1) ∙ c.if-not-taken.false in (
-      omega arith,
+    let e : c.loop-id.id-index ≡ 68 = omega arith in
+    let hit = sym (rw (e, take_all 68 l (omega arith)) at c.loop-id.invariant) ∙ c.if-not-taken.false in (
       omega (arith, c.next_after-candidate.ensures),
-      rw c.next_after-candidate.ensures (sym (free_step (69 - k.tries) (69 - (k.tries + 1)) l k.candidate (omega arith) hit) ∙ k.invariant.2),
+      rw c.next_after-candidate.ensures (sym (free_step (69 - k.counter) (69 - (k.counter + 1)) l k.candidate (omega arith) hit) ∙ k.invariant.1),
     )
 
 pub returns-after-candidate : goal.returns-after-candidate
 returns-after-candidate c =
     let k = c.candidate in
-    let e : 69 - k.tries ≡ 0 = omega arith in
-    sym (free_none c.args.held.now k.candidate) ∙ (rw e at k.invariant.2)
+    let e : 69 - k.counter ≡ 0 = omega arith in
+    sym (free_none c.args.held.now k.candidate) ∙ (rw e at k.invariant.1)
 
 pub returns-then-not-taken : goal.returns-then-not-taken
 returns-then-not-taken c =
     let k = c.candidate in
     let l = c.args.held.now in
     let long : length l ≡ 68 = omega arith in
-    let e : c.loop-i.i ≡ 68 = omega arith in
-    let none = sym (rw (e, take_all 68 l (omega arith)) at c.loop-i.invariant.1) ∙ c.if-not-taken.true in
-    sym (free_found (69 - k.tries) (68 - k.tries) l k.candidate (omega arith) none) ∙ k.invariant.2
+    let e : c.loop-id.id-index ≡ 68 = omega arith in
+    let none = sym (rw (e, take_all 68 l (omega arith)) at c.loop-id.invariant) ∙ c.if-not-taken.true in
+    sym (free_found (69 - k.counter) (68 - k.counter) l k.candidate (omega arith) none) ∙ k.invariant.1

@@ -17,4 +17,4 @@ returns c =
     let third = c.mark-interrogation.ensures in
     let second = c.mark-deactivation.ensures in
     let one = c.mark-activation.ensures in
-    rw (c.is_marked-marked-2.ensures, fourth.0, fourth.1, third.0, third.1, second.0, second.1, one.0, one.1)
+    rw (c.is_marked.ensures, fourth.0, fourth.1, third.0, third.1, second.0, second.1, one.0, one.1)

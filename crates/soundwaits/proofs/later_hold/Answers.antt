@@ -10,17 +10,17 @@ use Rattle.soundwaits.proofs.later_hold.Goals as goal
 
 pub loop-i-init : goal.loop-i-init
 unfolding places_hold
-loop-i-init c = (omega arith, sym (and_true _))
+loop-i-init c = sym (and_true _)
 
 pub loop-i-preserved : goal.loop-i-preserved
 loop-i-preserved c =
     let w = c.args.w in
     let long : length w.later ≡ 14 = search mapped_long in
-    (omega arith, rw c.place_holds-ok.ensures (places_more w.count w.later c.loop-i.i _ c.loop-i.ok (leb w.count 14) (omega arith) c.loop-i.invariant.1))
+    rw c.place_holds-ok.ensures (places_more w.count w.later c.loop-i.i _ c.loop-i.ok (leb w.count 14) (omega arith) c.loop-i.invariant)
 
 pub returns : goal.returns
 returns c =
     let w = c.args.w in
     let long : length w.later ≡ 14 = search mapped_long in
     let e : c.loop-i.i ≡ 14 = omega arith in
-    (rw (e, take_all 14 w.later (omega arith)) at c.loop-i.invariant.1) ∙ held_read w long
+    (rw (e, take_all 14 w.later (omega arith)) at c.loop-i.invariant) ∙ held_read w long

@@ -1,4 +1,4 @@
-use Prim.Native.Nat.{◌+◌, ◌*◌, ◌≤◌, ◌<◌}
+use Prim.Native.Nat.{◌+◌, ◌*◌, ◌<◌}
 use mathlib.Core.Path.{◌≡◌, sym, ◌∙◌}
 use native.Mathlib.Omega.{arith}
 use lib.Dec.{eqb}
@@ -12,7 +12,7 @@ use Rattle.soundwaits.proofs.later_unused.Goals as goal
 
 pub loop-i-init : goal.loop-i-init
 unfolding all
-loop-i-init c = (omega arith, sym (and_true _))
+loop-i-init c = sym (and_true _)
 
 -- two places more
 pub loop-i-preserved : goal.loop-i-preserved
@@ -20,10 +20,9 @@ loop-i-preserved c =
     let w = c.args.w in
     let i = c.loop-i.i in
     let long : length w.later ≡ 14 = search mapped_long in
-    let more : i + 1 ≤ 7 = omega arith in
     let near : 2 * i < length w.later = omega arith in
     let next : 2 * i + 1 < length w.later = omega arith in
     let e : 2 * (i + 1) ≡ 2 * i + 1 + 1 = omega arith in
-    let one = all_more dli1_unused w.later (2 * i) _ c.loop-i.ok (eqb w.count 0) near c.loop-i.invariant.1 in
+    let one = all_more dli1_unused w.later (2 * i) _ c.loop-i.ok (eqb w.count 0) near c.loop-i.invariant in
     let two = all_more dli1_unused w.later (2 * i + 1) _ _ (eqb w.count 0) next one in
-    (more, rw (c.pair_word-word.ensures, e, pair_unused _ _) (and_assoc c.loop-i.ok _ _ ∙ two))
+    rw (c.pair_word-word.ensures, e, pair_unused _ _) (and_assoc c.loop-i.ok _ _ ∙ two)

@@ -1,4 +1,4 @@
-use Prim.Native.Nat.{◌*◌, ◌≤◌, ◌-◌}
+use Prim.Native.Nat.{◌*◌}
 use mathlib.Core.Bool.{◌&&◌}
 use mathlib.Core.Path.{◌≡◌}
 use lib.Dec.{eqb}
@@ -8,7 +8,4 @@ use Rattle.waits.specs.Soundness.{dli1_unused}
 use Rattle.soundwaits.proofs.later_unused.Given as goal
 
 abbrev pub invariant-loop-i : goal.invariant-loop-i
-invariant-loop-i l = (l.i ≤ 7) × (l.ok ≡ eqb l.w.count 0 && all dli1_unused (take (2 * l.i) l.w.later))
-
-abbrev pub decreases-loop-i : goal.decreases-loop-i
-decreases-loop-i l = 7 - l.i
+invariant-loop-i l = l.ok ≡ eqb l.w.count 0 && all dli1_unused (take (2 * l.i) l.w.later)
