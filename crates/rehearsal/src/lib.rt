@@ -2,7 +2,7 @@
 #![tactic(auto)]
 
 // A panel: three destinations, 0 for none, and two marks, 0 or 1.
-#[derive(Clone, Copy)]
+#[derive(Clone, Copy, Default)]
 pub struct Panel {
     pub cfu: u16,
     pub cfb: u16,
