@@ -6,6 +6,7 @@ ghost use Rattle.ground.specs.Lists.{all};
 ghost use Rattle.rehearsal.specs.Plan.{panels_of, panel_ok};
 ghost use Rattle.rehearsal.specs.Rehearsal.{ended, kept_as, offered, forwarded, is_plan, rehearsal_of};
 
+use event::Refusal;
 use rehearsal::{Panel, Rehearsed};
 
 // The destinations are absent or in the plan, and the marks are 0 or 1.
@@ -100,7 +101,7 @@ pub fn rehearse(plan: &[u16], start: u16) -> Rehearsed
 {
     if !plan_ok(plan, start) {
         return Rehearsed {
-            code: 3,
+            code: Refusal::IllMade.number(),
             ending: 0,
             last: 0,
             counter: 255,
