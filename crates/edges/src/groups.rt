@@ -1,36 +1,33 @@
 // Groups of events from standard input, each on a board of its own.
-ghost use Rattle.std.specs.Prelude.{◌+◌, ◌≤◌, length};
+ghost use Rattle.std.specs.Prelude.{◌≡◌, ◌≤◌, length};
 
 use crate::show::{fresh, on, say};
 use std::io::Read;
 
 // A heading is a record of kind 255 with the length of a label and then the label, at most 22 bytes.
-fn heading(rt: HostRuntime, bytes: &[u8], i: usize) -> bool
-    requires { i + 24 ≤ length bytes.now }
+fn heading(rt: HostRuntime, bytes: &[u8]) -> bool
+    requires { length bytes.now ≡ 24 }
 {
-    if bytes[i] == 255 {
-        let n = bytes[i + 1] as usize;
-        if n <= 22 {
-            say(rt, b"# ");
-            say(rt, &bytes[i + 2..i + 2 + n]);
-            say(rt, b"\n");
-        }
-        return true;
+    if bytes[0] != 255 {
+        return false;
     }
-    false
+    let n = bytes[1] as usize;
+    if n <= 22 {
+        say(rt, b"# ");
+        say(rt, &bytes[2..2 + n]);
+        say(rt, b"\n");
+    }
+    true
 }
 
 fn played(rt: HostRuntime, bytes: &[u8]) {
     let mut s = fresh();
-    let mut i: usize = 0;
-    while i < bytes.len() / 24 {
-        if heading(rt, bytes, i * 24) {
+    for record in bytes.chunks_exact(24) {
+        if heading(rt, record) {
             s = fresh();
         } else {
-            let e = wire::event_at(bytes, i * 24);
-            s = on(rt, s, e);
+            s = on(rt, s, wire::event_at(record, 0));
         }
-        i += 1;
     }
 }
 

@@ -1,29 +1,27 @@
 // Many records in use.
 use crate::events::{divert, end, open_incoming, reject};
 use crate::show::{Show, fresh, on, quietly, say};
+use event::Event;
 
-// So many incoming calls, opened at time 1.
-fn opened(s: Show, calls: u8) -> Show {
+// So many events without their lines, each made of its place.
+fn all_quietly<F: Fn(u8) -> Event>(s: Show, calls: u8, event: F) -> Show
+    requires { F.IsAlwaysCallable event }
+{
     let mut t = s;
-    let mut i: u8 = 0;
-    while i < calls {
-        let e = open_incoming(102, 1);
-        t = quietly(t, e);
-        i += 1;
+    for call in 0..calls {
+        t = quietly(t, event(call));
     }
     t
 }
 
+// So many incoming calls, opened at time 1.
+fn opened(s: Show, calls: u8) -> Show {
+    all_quietly(s, calls, |_| open_incoming(102, 1))
+}
+
 // A request of each of the first calls, at time 1.
 fn requested(s: Show, calls: u8) -> Show {
-    let mut t = s;
-    let mut i: u8 = 0;
-    while i < calls {
-        let e = divert(i, 1);
-        t = quietly(t, e);
-        i += 1;
-    }
-    t
+    all_quietly(s, calls, |call| divert(call, 1))
 }
 
 // "64 records all used, open is 8; one call ended, open takes its record"

@@ -25,51 +25,24 @@ pub fn say(rt: HostRuntime, label: &[u8]) {
 
 // 64 free records and a fresh station of limit 15.
 pub fn fresh() -> Show {
-    let board = board::start();
     Show {
-        board: board,
+        board: board::start(),
         position: 0,
     }
 }
 
-// The lowest byte of a number.
-fn low(n: u64) -> u8 {
-    (n % 256) as u8
-}
-
 // The event's record, big-endian.
 fn bytes_of(e: Event) -> [u8; 24] {
-    let identifier = e.identifier as u64;
-    let first = e.first as u64;
-    let second = e.second as u64;
-    let third = e.third as u64;
-    let time = e.time;
-    [
-        e.kind,
-        e.call,
-        e.leg,
-        e.message,
-        e.reason,
-        e.option,
-        e.counter,
-        e.flag,
-        low(identifier >> 8),
-        low(identifier),
-        low(first >> 8),
-        low(first),
-        low(second >> 8),
-        low(second),
-        low(third >> 8),
-        low(third),
-        low(time >> 56),
-        low(time >> 48),
-        low(time >> 40),
-        low(time >> 32),
-        low(time >> 24),
-        low(time >> 16),
-        low(time >> 8),
-        low(time),
-    ]
+    let mut bytes = [0; 24];
+    bytes[..8].copy_from_slice(&[
+        e.kind, e.call, e.leg, e.message, e.reason, e.option, e.counter, e.flag,
+    ]);
+    bytes[8..10].copy_from_slice(&e.identifier.to_be_bytes());
+    bytes[10..12].copy_from_slice(&e.first.to_be_bytes());
+    bytes[12..14].copy_from_slice(&e.second.to_be_bytes());
+    bytes[14..16].copy_from_slice(&e.third.to_be_bytes());
+    bytes[16..].copy_from_slice(&e.time.to_be_bytes());
+    bytes
 }
 
 // The board after one event, whose line is written to the buffer's start. The printing run takes sound boards only, so that any
@@ -79,43 +52,33 @@ fn one_line(board: Board, position: u64, e: Event, line: &mut [u8]) -> Lined
     ensures { result.written ≤ 96 }
 {
     if board::sound_board(board) {
-        let bytes = bytes_of(e);
-        let played = panel::play(board, position, &bytes, line);
-        let next = played.board;
+        let played = panel::play(board, position, &bytes_of(e), line);
         return Lined {
-            board: next,
+            board: played.board,
             written: played.written,
         };
     }
-    let answer = fresh::empty_answer(1);
-    let written = printout::write_line(line, 0, position, answer);
-    Lined {
-        board: board,
-        written: written,
-    }
+    let written = printout::write_line(line, 0, position, fresh::empty_answer(1));
+    Lined { board, written }
 }
 
 // One event and its line.
 pub fn on(rt: HostRuntime, s: Show, e: Event) -> Show {
-    let board = s.board;
     let mut line = [0u8; 96];
-    let x = one_line(board, s.position as u64, e, &mut line);
+    let x = one_line(s.board, s.position as u64, e, &mut line);
     say(rt, &line[..x.written]);
-    let next = x.board;
     Show {
-        board: next,
+        board: x.board,
         position: s.position.wrapping_add(1),
     }
 }
 
 // One event without its line.
 pub fn quietly(s: Show, e: Event) -> Show {
-    let board = s.board;
     let mut line = [0u8; 96];
-    let x = one_line(board, 0, e, &mut line);
-    let next = x.board;
+    let x = one_line(s.board, 0, e, &mut line);
     Show {
-        board: next,
-        position: s.position,
+        board: x.board,
+        ..s
     }
 }

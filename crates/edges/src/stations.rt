@@ -33,12 +33,8 @@ fn waiting() -> Board {
     b
 }
 
-fn ticked(rt: HostRuntime, b: Board, position: u32, time: u64) {
-    let s = Show {
-        board: b,
-        position: position,
-    };
-    on(rt, s, clock(time));
+fn ticked(rt: HostRuntime, board: Board, position: u32, time: u64) {
+    on(rt, Show { board, position }, clock(time));
 }
 
 // T2 exactly, and what makes a station unsound.

@@ -4,7 +4,7 @@ use crate::events::{
 };
 use crate::show::{Show, fresh, on, say};
 use call::Call;
-use notice::Dli1;
+use notice::{Dli1, History};
 use waits::Waits;
 
 // "table empty, over 64 records"; the table's end is the board's length.
@@ -63,8 +63,10 @@ pub fn zeros(rt: HostRuntime) {
     let s = on(rt, s, clock(1));
     let s = on(rt, s, open_incoming(102, 2));
     on(rt, s, divert(0, 3));
-    let mut c = asked();
-    c.identifier = 0;
+    let c = Call {
+        identifier: 0,
+        ..asked()
+    };
     ticked(rt, c, 5);
 }
 
@@ -87,156 +89,155 @@ pub fn fresh_codes(rt: HostRuntime) {
 
 // The board with a record of the host's in its first place, at the last time 10.
 fn with(c: Call, position: u32) -> Show {
-    let mut b = board::start();
-    b.station.last = 10;
-    b.calls[0] = c;
-    Show {
-        board: b,
-        position: position,
-    }
+    let mut board = board::start();
+    board.station.last = 10;
+    board.calls[0] = c;
+    Show { board, position }
 }
 
 fn ticked(rt: HostRuntime, c: Call, position: u32) {
     on(rt, with(c, position), clock(20000));
 }
 
+// Each record on a board of its own; their lines are numbered from 0.
+fn all_ticked(rt: HostRuntime, records: &[Call]) {
+    for (position, c) in (0..).zip(records) {
+        ticked(rt, *c, position);
+    }
+}
+
 fn outgoing() -> Call {
-    let mut c = blank::free_call();
-    c.direction = 1;
-    c.basic = 1;
-    c.party = 101;
-    c
+    Call {
+        direction: 1,
+        basic: 1,
+        party: 101,
+        ..blank::free_call()
+    }
 }
 
 fn diverted() -> Call {
-    let mut c = outgoing();
-    c.cdo = 1;
-    c.history.seen = 1;
-    c.history.nominated = 207;
-    c
+    let c = outgoing();
+    Call {
+        cdo: 1,
+        history: History {
+            seen: 1,
+            nominated: 207,
+            ..c.history
+        },
+        ..c
+    }
 }
 
 fn incoming() -> Call {
-    let mut c = blank::free_call();
-    c.direction = 2;
-    c.basic = 1;
-    c.own = 102;
-    c
+    Call {
+        direction: 2,
+        basic: 1,
+        own: 102,
+        ..blank::free_call()
+    }
 }
 
 fn asked() -> Call {
-    let mut c = incoming();
-    c.cds = 1;
-    c.reason = 1;
-    c.identifier = 7;
-    c.start = 10;
-    c
+    Call {
+        cds: 1,
+        reason: 1,
+        identifier: 7,
+        start: 10,
+        ..incoming()
+    }
+}
+
+// A call with so many that wait behind the first.
+fn counting(c: Call, count: u8) -> Call {
+    Call {
+        waiting: Waits { count, ..c.waiting },
+        ..c
+    }
 }
 
 // Each of these records makes its table not sound.
 pub fn damaged_outgoing(rt: HostRuntime) {
     say(rt, b"# damaged, outgoing\n");
-    let mut c = blank::free_call();
-    c.party = 101;
-    ticked(rt, c, 0);
-    let mut c = outgoing();
-    c.direction = 3;
-    ticked(rt, c, 1);
-    let mut c = outgoing();
-    c.party = 0;
-    ticked(rt, c, 2);
-    let mut c = outgoing();
-    c.basic = 4;
-    ticked(rt, c, 3);
-    let mut c = outgoing();
-    c.own = 102;
-    ticked(rt, c, 4);
+    let c = outgoing();
+    let d = diverted();
+    let party_alone = Call {
+        party: 101,
+        ..blank::free_call()
+    };
+    let direction = Call { direction: 3, ..c };
+    let party = Call { party: 0, ..c };
+    let basic = Call { basic: 4, ..c };
+    let own = Call { own: 102, ..c };
     // nothing waits outside Invoked
-    let mut c = outgoing();
-    let mut w = c.waiting;
-    w.count = 1;
-    c.waiting = w;
-    ticked(rt, c, 5);
-    let mut c = diverted();
-    c.basic = 3;
-    ticked(rt, c, 6);
-    let mut c = diverted();
-    c.history.shown = 2;
-    ticked(rt, c, 7);
+    let waits = counting(c, 1);
+    let over = Call { basic: 3, ..d };
+    let shown = History {
+        shown: 2,
+        ..d.history
+    };
+    let mark = Call {
+        history: shown,
+        ..d
+    };
+    all_ticked(
+        rt,
+        &[party_alone, direction, party, basic, own, waits, over, mark],
+    );
 }
 
 // In Invoked, with two that wait.
 fn invoked() -> Call {
-    let mut c = outgoing();
-    c.basic = 2;
-    c.cdr = 1;
-    let first = waiting(3, 2, 301);
-    let second = waiting(1, 0, 302);
-    let w = queue::waits_for(first);
-    c.waiting = with_second(w, second);
-    c
+    Call {
+        basic: 2,
+        cdr: 1,
+        waiting: with_second(queue::waits_for(waiting(3, 2, 301)), waiting(1, 0, 302)),
+        ..outgoing()
+    }
 }
 
 fn waiting(reason: u8, option: u8, number: u16) -> Dli1 {
     Dli1 {
-        reason: reason,
-        option: option,
-        number: number,
+        reason,
+        option,
+        number,
     }
 }
 
 fn with_second(w: Waits, d: Dli1) -> Waits {
-    let mut v = w;
+    let mut v = Waits { count: 1, ..w };
     v.later[0] = d;
-    v.count = 1;
     v
 }
 
 // What waits in Invoked is sound, and each of these is not: a later one is cfnr, a place not used is not 0, more than 15 wait.
 pub fn waiting_ones(rt: HostRuntime) {
     say(rt, b"# waiting\n");
-    ticked(rt, invoked(), 0);
-    let mut c = invoked();
-    c.waiting = with_second(c.waiting, waiting(3, 2, 302));
-    ticked(rt, c, 1);
-    let mut c = invoked();
-    let mut w = c.waiting;
-    w.count = 0;
-    c.waiting = w;
-    ticked(rt, c, 2);
-    let mut c = invoked();
-    let mut w = c.waiting;
-    w.count = 15;
-    c.waiting = w;
-    ticked(rt, c, 3);
+    let c = invoked();
+    let cfnr_later = Call {
+        waiting: with_second(c.waiting, waiting(3, 2, 302)),
+        ..c
+    };
+    all_ticked(rt, &[c, cfnr_later, counting(c, 0), counting(c, 15)]);
 }
 
 pub fn damaged_incoming(rt: HostRuntime) {
     say(rt, b"# damaged, incoming\n");
-    let mut c = incoming();
-    c.diverting = 103;
-    ticked(rt, c, 0);
-    let mut c = incoming();
-    c.cdf = 1;
-    ticked(rt, c, 1);
-    let mut c = incoming();
-    c.identifier = 7;
-    ticked(rt, c, 2);
-    let mut c = asked();
-    c.granted = 1;
-    ticked(rt, c, 3);
-    let mut c = asked();
-    c.reason = 3;
-    ticked(rt, c, 4);
+    let c = incoming();
+    let a = asked();
+    let diverting = Call {
+        diverting: 103,
+        ..c
+    };
+    let cdf = Call { cdf: 1, ..c };
+    let identifier = Call { identifier: 7, ..c };
+    let granted = Call { granted: 1, ..a };
+    let reason = Call { reason: 3, ..a };
     // T1 is held against the last time, not the event's
-    let mut c = asked();
-    c.start = 11;
-    ticked(rt, c, 5);
+    let start = Call { start: 11, ..a };
+    all_ticked(rt, &[diverting, cdf, identifier, granted, reason, start]);
     // no two requests share an identifier
-    let mut s = with(asked(), 6);
-    let mut b = s.board;
-    b.calls[63] = asked();
-    s.board = b;
+    let mut s = with(a, 6);
+    s.board.calls[63] = a;
     on(rt, s, clock(20000));
 }
 
@@ -244,22 +245,32 @@ pub fn damaged_incoming(rt: HostRuntime) {
 // stored counter above the limit.
 pub fn sound(rt: HostRuntime) {
     say(rt, b"# sound\n");
-    ticked(rt, outgoing(), 0);
-    let mut c = diverted();
-    c.history.strictest = 2;
-    c.history.forbidden = 1;
-    c.history.shown = 1;
-    ticked(rt, c, 1);
-    ticked(rt, asked(), 2);
-    let mut c = incoming();
-    c.basic = 2;
-    c.cdf = 2;
-    c.counter = 1;
-    on(rt, with(c, 3), answer(0, 11));
-    let mut c = incoming();
-    c.cdf = 1;
-    c.counter = 15;
-    let mut s = with(c, 4);
+    let c = incoming();
+    let d = diverted();
+    let marks = History {
+        strictest: 2,
+        forbidden: 1,
+        shown: 1,
+        ..d.history
+    };
+    let marked = Call {
+        history: marks,
+        ..d
+    };
+    all_ticked(rt, &[outgoing(), marked, asked()]);
+    let done = Call {
+        basic: 2,
+        cdf: 2,
+        counter: 1,
+        ..c
+    };
+    on(rt, with(done, 3), answer(0, 11));
+    let above = Call {
+        cdf: 1,
+        counter: 15,
+        ..c
+    };
+    let mut s = with(above, 4);
     s.board.station.limit = 3;
     on(rt, s, divert(0, 11));
 }

@@ -6,59 +6,58 @@ ghost use Rattle.ground.specs.Lists.{all};
 ghost use Rattle.rehearsal.specs.Plan.{panels_of, panel_ok};
 ghost use Rattle.rehearsal.specs.Rehearsal.{ended, kept_as, offered, forwarded, is_plan, rehearsal_of};
 
+use event::Refusal;
 use rehearsal::{Panel, Rehearsed};
 
 // The destinations are absent or in the plan, and the marks are 0 or 1.
 fn panel_ok(p: Panel, panels: usize) -> bool
     ensures { result ≡ panel_ok panels p }
 {
-    let cfu = p.cfu as usize;
-    let cfb = p.cfb as usize;
-    let cfnr = p.cfnr as usize;
-    (cfu <= panels) & (cfb <= panels) & (cfnr <= panels) & (p.busy <= 1) & (p.unattended <= 1)
+    p.cfu as usize <= panels
+        && p.cfb as usize <= panels
+        && p.cfnr as usize <= panels
+        && p.busy <= 1
+        && p.unattended <= 1
 }
 
 // Every panel of a plan that is not too long is as it should be.
+#[tactic(auto, using(rehearsal::proofs::Panels::place_is, ground::proofs::Walks::all_on, ground::proofs::Walks::all_get), unfolding(ground::specs::Lists::all))]
 fn panels_ok(plan: &[u16], panels: usize) -> bool
     requires { (panels ≡ length (panels_of plan.now)) × (panels ≤ 256) }
     ensures { result ≡ all (panel_ok panels) (panels_of plan.now) }
 {
-    let mut i: usize = 0;
-    while i < panels {
-        let p = panels::panel_at(plan, (i + 1) as u16);
-        if !panel_ok(p, panels) {
+    for i in 0..panels {
+        if !panel_ok(panels::panel_at(plan, (i + 1) as u16), panels) {
             return false;
         }
-        i += 1;
     }
     true
 }
 
 // The test behind number 3: "an empty plan, one over 256 panels, or a start or destination outside the plan".
+#[tactic(auto, using(rehearsal::proofs::Panels::panels_long, rehearsal::proofs::Panels::shape_then_panels, rehearsal::proofs::Panels::shape_small))]
 fn plan_ok(plan: &[u16], start: u16) -> bool
     ensures { result ≡ is_plan plan.now start }
 {
     let panels = plan.len() / 4;
     let place = start as usize;
-    if !((plan.len() % 4 == 0)
+    let shaped = (plan.len() % 4 == 0)
         & (1 <= panels)
         & (panels <= 256)
         & (1 <= place)
-        & (place <= panels))
-    {
-        return false;
-    }
-    panels_ok(plan, panels)
+        & (place <= panels);
+    shaped && panels_ok(plan, panels)
 }
 
+// Stays: code and ending are numbers of the C interface's `Rehearsed`.
 fn end_at(last: u16, ending: u8, counter: u8) -> Rehearsed
     ensures { result ≡ ended last ending counter }
 {
     Rehearsed {
         code: 0,
-        ending: ending,
-        last: last,
-        counter: counter,
+        ending,
+        last,
+        counter,
     }
 }
 
@@ -71,6 +70,7 @@ fn kept_as(p: Panel) -> u8
 
 // "A panel offered a call forwards it"; one that does not keeps it.
 #[cycle(forward_offer)]
+#[tactic(auto, using(rehearsal::proofs::Offers::kept_here, rehearsal::proofs::Offers::forwarded_on_lem), unfolding(rehearsal::specs::Plan::next))]
 fn offer(plan: &[u16], at: u16, left: u8, counter: u8) -> Rehearsed
     requires { counter + left < 256 }
     ensures { result ≡ offered (panels_of plan.now) at left counter }
@@ -101,7 +101,7 @@ pub fn rehearse(plan: &[u16], start: u16) -> Rehearsed
 {
     if !plan_ok(plan, start) {
         return Rehearsed {
-            code: 3,
+            code: Refusal::IllMade.number(),
             ending: 0,
             last: 0,
             counter: 255,

@@ -1,7 +1,7 @@
 // The panel printout: reads event records from standard input and prints a line each.
 #![tactic(auto)]
 
-ghost use Rattle.std.specs.Prelude.{◌≡◌, true, ◌+◌, ◌^◌, ◌≤◌, ◌<◌, length};
+ghost use Rattle.std.specs.Prelude.{◌≡◌, true, ◌+◌, ◌^◌, ◌<◌, IfSome};
 ghost use Rattle.board.specs.Board.{sound_board};
 ghost use Rattle.panelrun.specs.Between.{Between};
 
@@ -9,39 +9,17 @@ use board::Board;
 use std::io;
 use std::io::Read;
 
-// What goes from turn to turn. The bytes held are those of a record that the next piece completes; `state` is 0 while there is
-// more to read, 1 at the end of the input and 2 after a failure.
+// What goes from turn to turn. The bytes held are those of a record that the next piece completes.
 #[derive(Clone, Copy)]
 pub struct Run {
     board: Board,
     position: u64,
     held: usize,
-    state: u8,
-}
-
-// Where a piece of input ends in its buffer, or that its read failed.
-#[derive(Clone, Copy)]
-pub struct Piece {
-    failed: bool,
-    end: usize,
-}
-
-// Room for a piece of input.
-fn input_buffer() -> [u8; 65536]
-    ensures { 65536 ≡ length result }
-{
-    [0; 65536]
-}
-
-// Room for the lines of a whole piece of input: 96 bytes for each of 2,730 records.
-fn lines_buffer() -> [u8; 262144]
-    ensures { 262144 ≡ length result }
-{
-    [0; 262144]
 }
 
 // A line on standard error: what failed, and the system's words for it. The number that the library puts behind them stays away,
 // but where there is no memory for a copy.
+// Stays: `rehearse` has the same function, since no library crate has a heap, from which the system's words come.
 fn tell(rt: HostRuntime, what: &str, error: io::Error) {
     let _ = match format!(in rt.alloc(); "{error}") {
         Ok(text) => match text.split_once(" (os error ") {
@@ -50,26 +28,6 @@ fn tell(rt: HostRuntime, what: &str, error: io::Error) {
         },
         Err(_) => eprintln!(rt; "{what}: {error}"),
     };
-}
-
-// Reads a piece behind the bytes that are held.
-fn read_behind(rt: HostRuntime, input: &mut [u8], held: usize) -> Piece
-    requires { held ≤ length input.old }
-    ensures { (held ≤ result.end) × (result.end ≤ length input.old) }
-{
-    match rt.stdin().read(&mut input[held..]) {
-        Ok(count) => Piece {
-            failed: false,
-            end: held + count,
-        },
-        Err(error) => {
-            tell(rt, "panelrun: reading standard input", error);
-            Piece {
-                failed: true,
-                end: held,
-            }
-        }
-    }
 }
 
 // Whether the lines were written; that they were not is told.
@@ -83,56 +41,6 @@ fn print(rt: HostRuntime, lines: &[u8]) -> bool {
     }
 }
 
-// Reads a piece, plays it and writes its lines.
-fn turn(
-    rt: HostRuntime,
-    board: Board,
-    position: u64,
-    held: usize,
-    input: &mut [u8],
-    output: &mut [u8],
-) -> Run
-    requires { (sound_board board ≡ true) × (position + 2730 < 2 ^ 64) × (held < 24) × (length input.old ≡ 65536) × (length output.old ≡ 262144) }
-    ensures { Between position result }
-{
-    let piece = read_behind(rt, input, held);
-    let end = piece.end;
-    if piece.failed {
-        return Run {
-            board: board,
-            position: position,
-            held: held,
-            state: 2,
-        };
-    }
-    if end == held {
-        return Run {
-            board: board,
-            position: position,
-            held: held,
-            state: 1,
-        };
-    }
-    let played = panel::play(board, position, &input[..end], output);
-    let next = played.board;
-    let rest = end - played.used;
-    if print(rt, &output[..played.written]) {
-        ground::carry(input, played.used, rest);
-        return Run {
-            board: next,
-            position: played.position,
-            held: rest,
-            state: 0,
-        };
-    }
-    Run {
-        board: next,
-        position: played.position,
-        held: rest,
-        state: 2,
-    }
-}
-
 // The line of a cut last record.
 fn print_cut(rt: HostRuntime, count: usize) {
     let mut line = [0u8; 32];
@@ -140,28 +48,57 @@ fn print_cut(rt: HostRuntime, count: usize) {
     print(rt, &line[..n]);
 }
 
-fn main(rt: HostRuntime) {
-    let mut board = board::start();
-    let mut position: u64 = 0;
-    let mut held: usize = 0;
-    let mut input = input_buffer();
-    let mut output = lines_buffer();
-    // A proved loop ends, and nothing says that the input does: more turns than any run takes.
-    let mut turns: u64 = 4503599627370496;
-    while turns > 0 {
-        let t = turn(rt, board, position, held, &mut input, &mut output);
-        board = t.board;
-        position = t.position;
-        held = t.held;
-        if t.state == 1 {
-            if held > 0 {
-                print_cut(rt, held);
+// Reads a piece, plays it and writes its lines; nothing where no turn follows, at the end of the input or after a failure.
+fn turn(
+    rt: HostRuntime,
+    run: Run,
+    input: &mut [u8; 65536],
+    output: &mut [u8; 262144],
+) -> Option<Run>
+    requires { (sound_board run.board ≡ true) × (run.position + 2730 < 2 ^ 64) × (run.held < 24) }
+    ensures { IfSome result (Between run.position) }
+{
+    let end = match rt.stdin().read(&mut input[run.held..]) {
+        Ok(0) => {
+            if run.held > 0 {
+                print_cut(rt, run.held);
             }
-            return;
+            return None;
         }
-        if t.state == 2 {
-            return;
+        Ok(count) => run.held + count,
+        Err(error) => {
+            tell(rt, "panelrun: reading standard input", error);
+            return None;
         }
-        turns -= 1;
+    };
+    let played = panel::play(run.board, run.position, &input[..end], output);
+    if !print(rt, &output[..played.written]) {
+        return None;
+    }
+    let held = end - played.used;
+    ground::carry(input, played.used, held);
+    Some(Run {
+        board: played.board,
+        position: played.position,
+        held,
+    })
+}
+
+#[tactic(auto, using(board::proofs::Kept::start_sound))]
+fn main(rt: HostRuntime) {
+    let mut run = Run {
+        board: board::start(),
+        position: 0,
+        held: 0,
+    };
+    let mut input = [0; 65536];
+    // Room for the lines of a whole piece of input: 96 bytes for each of 2,730 records.
+    let mut output = [0; 262144];
+    // A proved loop ends, and nothing says that the input does: more turns than any run takes.
+    for _ in 0..4503599627370496u64 {
+        let Some(next) = turn(rt, run, &mut input, &mut output) else {
+            return;
+        };
+        run = next;
     }
 }

@@ -3,7 +3,7 @@
 
 // A panel: three destinations, 0 for none, and two marks, 0 or 1.
 // Stays: the numbers that C lends, four for each panel, as the definition `panel_of` reads them.
-#[derive(Clone, Copy)]
+#[derive(Clone, Copy, Default)]
 pub struct Panel {
     pub cfu: u16,
     pub cfb: u16,

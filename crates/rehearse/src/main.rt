@@ -2,28 +2,13 @@
 // on standard error, with its line's number; a program has no exit status to tell it by.
 #![tactic(auto)]
 
-ghost use Rattle.std.specs.Prelude.{◌≡◌, ◌≤◌, length};
-
 use plantext::Reading;
 use std::io;
 use std::io::Read;
 
-// What goes from turn to turn; `state` is 0 while there is more to read, 1 at the end of the text and 2 after a failure.
-#[derive(Clone, Copy)]
-pub struct Run {
-    reading: Reading,
-    state: u8,
-}
-
-// Room for 257 panels: with the last of them a plan is too long.
-fn plan_buffer() -> [u16; 1028]
-    ensures { 1028 ≡ length result }
-{
-    [0; 1028]
-}
-
 // A line on standard error: what failed, and the system's words for it. The number that the library puts behind them stays away,
 // but where there is no memory for a copy.
+// Stays: `panelrun` has the same function, since no library crate has a heap, from which the system's words come.
 fn tell(rt: HostRuntime, what: &str, error: io::Error) {
     let _ = match format!(in rt.alloc(); "{error}") {
         Ok(text) => match text.split_once(" (os error ") {
@@ -32,31 +17,6 @@ fn tell(rt: HostRuntime, what: &str, error: io::Error) {
         },
         Err(_) => eprintln!(rt; "{what}: {error}"),
     };
-}
-
-// Reads a piece of the text.
-fn turn(rt: HostRuntime, r: Reading, plan: &mut [u16], input: &mut [u8]) -> Run {
-    let count = match rt.stdin().read(input) {
-        Ok(count) => count,
-        Err(error) => {
-            tell(rt, "rehearse: reading standard input", error);
-            return Run {
-                reading: r,
-                state: 2,
-            };
-        }
-    };
-    if count == 0 {
-        return Run {
-            reading: r,
-            state: 1,
-        };
-    }
-    let next = planreading::read_piece(r, plan, &input[..count]);
-    Run {
-        reading: next,
-        state: 0,
-    }
 }
 
 fn print_rehearsal(rt: HostRuntime, plan: &[u16], start: u16) {
@@ -86,20 +46,15 @@ fn conclude(rt: HostRuntime, r: Reading, plan: &mut [u16]) {
 
 fn main(rt: HostRuntime) {
     let mut reading = planends::begin();
-    let mut plan = plan_buffer();
-    let mut input = [0u8; 65536];
+    // Room for 257 panels: with the last of them a plan is too long.
+    let mut plan = [0; 1028];
+    let mut input = [0; 65536];
     // A proved loop ends, and nothing says that the text does: more turns than any text takes.
-    let mut turns: u64 = 4503599627370496;
-    while turns > 0 {
-        let t = turn(rt, reading, &mut plan, &mut input);
-        reading = t.reading;
-        if t.state == 1 {
-            conclude(rt, reading, &mut plan);
-            return;
+    for _ in 0..4503599627370496u64 {
+        match rt.stdin().read(&mut input) {
+            Ok(0) => return conclude(rt, reading, &mut plan),
+            Ok(count) => reading = planreading::read_piece(reading, &mut plan, &input[..count]),
+            Err(error) => return tell(rt, "rehearse: reading standard input", error),
         }
-        if t.state == 2 {
-            return;
-        }
-        turns -= 1;
     }
 }
