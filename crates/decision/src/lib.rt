@@ -18,16 +18,13 @@ use turn::DoneOn;
 fn head_word(e: Event) -> u32
     ensures { result ≡ head_word e }
 {
-    (e.kind as u32) + 256 * (e.call as u32) + 65536 * (e.leg as u32) + 16777216 * (e.message as u32)
+    u32::from_le_bytes([e.kind, e.call, e.leg, e.message])
 }
 
 fn codes_word(e: Event) -> u32
     ensures { result ≡ codes_word e }
 {
-    (e.reason as u32)
-        + 256 * (e.option as u32)
-        + 65536 * (e.counter as u32)
-        + 16777216 * (e.flag as u32)
+    u32::from_le_bytes([e.reason, e.option, e.counter, e.flag])
 }
 
 fn first_word(e: Event) -> u32
@@ -45,20 +42,22 @@ fn second_word(e: Event) -> u32
 fn event_of(head: u32, codes: u32, first: u32, second: u32, time: u64) -> Event
     ensures { result ≡ event_of head codes first second time }
 {
+    let [kind, call, leg, message] = head.to_le_bytes();
+    let [reason, option, counter, flag] = codes.to_le_bytes();
     Event {
-        kind: (head % 256) as u8,
-        call: (head / 256 % 256) as u8,
-        leg: (head / 65536 % 256) as u8,
-        message: (head / 16777216) as u8,
-        reason: (codes % 256) as u8,
-        option: (codes / 256 % 256) as u8,
-        counter: (codes / 65536 % 256) as u8,
-        flag: (codes / 16777216) as u8,
+        kind,
+        call,
+        leg,
+        message,
+        reason,
+        option,
+        counter,
+        flag,
         identifier: (first % 65536) as u16,
         first: (first / 65536) as u16,
         second: (second % 65536) as u16,
         third: (second / 65536) as u16,
-        time: time,
+        time,
     }
 }
 
@@ -87,8 +86,8 @@ pub fn decided_on(input: Input, v: Noted, n: usize, p: Pick, c: Call) -> Decisio
     let identifier = p.identifier;
     let seen = Seen {
         len: n,
-        place: place,
-        identifier: identifier,
+        place,
+        identifier,
         call: c,
     };
     match turn::turned(s, e, seen) {

@@ -17,7 +17,7 @@ fn open_fields(e: Event) -> bool
         & (e.counter == 0)
         & (e.flag == 0)
         & (e.identifier == 0)
-        & !(e.first == 0)
+        & (e.first != 0)
         & (e.second == 0)
         & (e.third == 0)
 }
@@ -34,7 +34,7 @@ fn open_diverted_fields(e: Event) -> bool
         & (e.counter <= 15)
         & (e.flag == 0)
         & (e.identifier == 0)
-        & !(e.first == 0)
+        & (e.first != 0)
 }
 
 fn call_only(e: Event) -> bool
@@ -79,7 +79,7 @@ fn divert_fields(e: Event) -> bool
         & (e.flag == 0)
         & (e.identifier == 0)
         & (e.first == 0)
-        & !(e.second == 0)
+        & (e.second != 0)
         & (e.third == 0)
 }
 
@@ -92,7 +92,7 @@ fn outcome_fields(e: Event) -> bool
         & (e.option == 0)
         & (e.counter == 0)
         & (e.flag == 0)
-        & !(e.identifier == 0)
+        & (e.identifier != 0)
         & (e.first == 0)
         & (e.second == 0)
         & (e.third == 0)
@@ -127,7 +127,7 @@ fn rerouting_fields(e: Event) -> bool
         & (e.counter <= 15)
         & (e.flag == 0)
         & (e.first == 0)
-        & !(e.second == 0)
+        & (e.second != 0)
 }
 
 fn dli1_fields(e: Event) -> bool
@@ -141,7 +141,7 @@ fn dli1_fields(e: Event) -> bool
         & (e.flag == 0)
         & (e.identifier == 0)
         & (e.first == 0)
-        & !(e.second == 0)
+        & (e.second != 0)
         & (e.third == 0)
 }
 
@@ -159,9 +159,9 @@ fn message_fields(e: Event) -> bool
         & (e.identifier == 0)
         & (e.first == 0)
         & (e.third == 0)
-        & (!(e.flag == 0) | (e.second == 0))
-        & (!(e.message == 1) | !(e.flag == 0))
-        & (!(e.message == 4) | (e.flag == 0))
+        & ((e.flag != 0) | (e.second == 0))
+        & ((e.message != 1) | (e.flag != 0))
+        & ((e.message != 4) | (e.flag == 0))
 }
 
 // The kind is one of the table, and each field is as its row says. Only the row of the event's kind is looked at; neighbours
