@@ -19,12 +19,10 @@ use Rattle.bounds.specs.Bounds.{in_bounds}
 use Rattle.slice.specs.Table.{settled_at}
 use Rattle.survey.specs.declared.Noted.{Noted}
 use Rattle.sight.specs.declared.Seen.{Seen}
-use Rattle.turn.specs.declared.Turn.{Turn}
-use Rattle.turn.specs.declared.Turn.TheVariants.{Refused, Far, Done}
 use Rattle.sight.specs.Sight.{beyond}
 use Rattle.numbers.specs.Numbers.{number_of}
 use Rattle.deed.specs.Deed.{Doable}
-use Rattle.turn.specs.Turn.{seen_in, turn_of, decided_of, outcome_of}
+use Rattle.turn.specs.Turn.{Turn, Refused, Far, Done, seen_in, turn_of, decided_of, outcome_of}
 use Rattle.turn.proofs.Turns.{done_doable}
 use Rattle.turn.proofs.Laws.{decided_steps}
 use Rattle.pick.specs.declared.Input.{Input}

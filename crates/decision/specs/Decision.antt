@@ -11,9 +11,7 @@ use Rattle.survey.specs.declared.Noted.{Noted}
 use Rattle.sight.specs.declared.Seen.{Seen}
 use Rattle.outcome.specs.Outcome.{station_on, station_far}
 use Rattle.deed.specs.Deed.{acted_of}
-use Rattle.turn.specs.declared.Turn.{Turn}
-use Rattle.turn.specs.declared.Turn.TheVariants.{Refused, Far, Done}
-use Rattle.turn.specs.Turn.{seen_in, turn_of, moved_of, decided_of}
+use Rattle.turn.specs.Turn.{Turn, Refused, Far, Done, seen_in, turn_of, moved_of, decided_of}
 use Rattle.pick.specs.declared.Input.{Input}
 use Rattle.pick.specs.declared.Pick.{Pick}
 use Rattle.pick.specs.Pick.{place_seen}
