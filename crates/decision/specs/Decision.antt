@@ -30,7 +30,7 @@ decision_on s calls e = decision_of s e (seen_in s calls e) (decided_of s calls 
 
 -- the outcome that a decision stands for
 abbrev pub outcome_by : List Call → Decision → Outcome
-outcome_by calls d = record { answer = d.reply.answer; station = d.reply.station; calls = settled_at d.change.place d.change.count d.change.call calls }
+outcome_by calls d = record { answer = d.reply.answer; station = d.reply.station; calls = settled_at d.change calls }
 
 abbrev pub seen_by : Input → Noted → ℕ → Pick → Call → Seen
 seen_by input v n p c = record { len = n; place = place_seen v input; identifier = p.identifier; call = c }
