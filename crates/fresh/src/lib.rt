@@ -6,6 +6,7 @@ ghost use Rattle.station.specs.Station.{fresh_station, fresh_of, short_form, emp
 
 use station::{Answer, Made, Station};
 
+// "Fresh means last time 0, next identifier 65,535."
 fn fresh_station(limit: u8, enabled: u8, allowed: u8) -> Station
     ensures { result ≡ fresh_station limit enabled allowed }
 {

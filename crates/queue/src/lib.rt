@@ -25,6 +25,7 @@ pub fn waits_for(d: Dli1) -> Waits
 }
 
 // One more waits. That there is room is given: "a sixteenth wait .. still gets the return error".
+#[tactic(auto, using(waits::proofs::Counted::room_below))]
 pub fn waits_with(w: Waits, d: Dli1) -> Waits
     requires { T (room w) }
     ensures { result ≡ waits_with w d }
@@ -36,6 +37,7 @@ pub fn waits_with(w: Waits, d: Dli1) -> Waits
 }
 
 // Fewer than 15 wait.
+#[tactic(auto, using(waits::proofs::Counted::room_read))]
 pub fn room(w: Waits) -> bool
     ensures { result ≡ room w }
 {
@@ -43,6 +45,7 @@ pub fn room(w: Waits) -> bool
 }
 
 // Those behind the first, in order: the first `count` places, or all where there are fewer.
+#[tactic(auto, using(std::proofs::lemmas::List::take_min))]
 fn behind(later: &[Dli1], count: u8) -> &[Dli1]
     ensures { result.now ≡ take count later.now }
 {
@@ -50,6 +53,7 @@ fn behind(later: &[Dli1], count: u8) -> &[Dli1]
 }
 
 // The last waiting number, leg 2's party.
+#[tactic(auto, using(crate::proofs::Walk::last_read))]
 pub fn last_number(w: Waits) -> u16
     ensures { result ≡ last_number w }
 {
@@ -61,6 +65,7 @@ pub fn last_number(w: Waits) -> u16
 }
 
 // Those behind the first reach the CDO, in order.
+#[tactic(auto, using(crate::proofs::Walk::after_more), unfolding(waits::specs::Waits::after_all))]
 fn after_later(h: History, w: Waits) -> History
     ensures { result ≡ after_all h (behind w) }
 {
@@ -72,6 +77,7 @@ fn after_later(h: History, w: Waits) -> History
 }
 
 // "all are handed to the own CDO in order"; the notice is that of the first.
+#[tactic(auto, unfolding(waits::specs::Waits::take_all))]
 pub fn hand_over(h: History, w: Waits) -> Noticed
     ensures { result ≡ take_all h (dli1s w) }
 {

@@ -38,7 +38,7 @@ faulty_of panels p e =
     (λ f. unattended_above (over _ _ f))
 
 of_faulty : (panels : ℕ) (p : Panel) → Faulty panels p → panel_ok panels p ≡ false
-of_faulty panels p (cfu_outside h) = simp (lt-leb _ _ h, and_false)
+of_faulty panels p (cfu_outside h) = simp (lt-leb _ _ h)
 of_faulty panels p (cfb_outside h) = simp (lt-leb _ _ h, and_false)
 of_faulty panels p (cfnr_outside h) = simp (lt-leb _ _ h, and_false)
 of_faulty panels p (busy_above h) = simp (lt-leb _ _ h, and_false)

@@ -9,7 +9,7 @@ use event::Event;
 
 // What an event needs of a table: its length, the place where the event acts (from the length on where there is none), the
 // identifier that a request would take, and the record at the place.
-// Stays: no Option, since in the definition a place past the end is none, and so is that of an event that names no call.
+// Stays: no Option, since the definition's place is past the end where there is none, and an event may name such a one.
 #[derive(Clone, Copy)]
 pub struct Seen {
     pub len: usize,

@@ -7,6 +7,7 @@ ghost use Rattle.wire.specs.Record.{event_at};
 use event::Event;
 
 // The event whose 24 bytes start at i.
+#[tactic(auto, unfolding(crate::specs::Record::event_at))]
 pub fn event_at(bytes: &[u8], i: usize) -> Event
     requires { i + 24 ≤ length bytes.now }
     ensures { result ≡ event_at bytes.now i }
