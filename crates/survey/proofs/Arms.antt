@@ -1,11 +1,7 @@
 -- What each case of `note_at` notes is what is noted of the record. Assumes nothing.
 use Rattle.std.proofs.Common.{◌≡◌, ℕ, ◌∙◌}
-use mathlib.Core.Bool.{not}
-use borrow.Author.Tests.{eqb-true}
-use lib.Dec.{T}
-use Rattle.ground.proofs.Bools.{is_true, is_false}
+use borrow.Author.Tests.{eq-eqb, ne_eqb}
 use Rattle.call.specs.declared.Call.{Call}
-use Rattle.call.specs.Record.{is_outgoing, is_incoming, invoked, requested}
 use Rattle.sound.specs.Cases.{incoming_by, waiting_by, outgoing_by}
 use Rattle.sound.proofs.Cases.{sound_open, sound_incoming_lem, sound_waiting, sound_outgoing_lem, sound_free}
 use Rattle.survey.specs.declared.Asked.{Asked}
@@ -14,34 +10,29 @@ use Rattle.survey.specs.Survey.{passed_with, with_soundness, passed_open, passed
 
 -- d is what was tested, c what is noted, and both are the record r
 module _ (q : Asked) (v : Passed) (d c r : Call) (e₁ : d ≡ r) (e₂ : c ≡ r) (k : ℕ) (t : Passed) where
-  pub open_is : T (is_incoming d) → T (requested d) → t ≡ passed_open q v c k → t ≡ passed_with q v r k
+  pub open_is : d.direction ≡ 2 → d.cds ≡ 1 → t ≡ passed_open q v c k → t ≡ passed_with q v r k
   open_is s p h =
-      let i = is_true (is_incoming r) (rw (← e₁) s) in
-      let y = is_true (requested r) (rw (← e₁) p) in
-      let n : r.direction ≡ 2 = eqb-true r.direction 2 i in
-      h ∙ rw (e₂, sound_open q.last r i y, n, y)
+      let n : r.direction ≡ 2 = rw (← e₁) s in
+      let y = eq-eqb r.cds 1 (rw (← e₁) p) in
+      h ∙ rw (e₂, sound_open q.last r (eq-eqb r.direction 2 n) y, n, y)
 
-  pub incoming_is : T (is_incoming d) → T (not (requested d)) → t ≡ with_soundness v (incoming_by c) → t ≡ passed_with q v r k
+  pub incoming_is : d.direction ≡ 2 → (d.cds ≡ 1 → ⊥) → t ≡ with_soundness v (incoming_by c) → t ≡ passed_with q v r k
   incoming_is s p h =
-      let i = is_true (is_incoming r) (rw (← e₁) s) in
-      let f = is_false (requested r) (rw (← e₁) p) in
-      let n : r.direction ≡ 2 = eqb-true r.direction 2 i in
-      h ∙ rw (e₂, sound_incoming_lem q.last r i f, n, f)
+      let n : r.direction ≡ 2 = rw (← e₁) s in
+      let f = ne_eqb r.cds 1 (rw (← e₁) p) in
+      h ∙ rw (e₂, sound_incoming_lem q.last r (eq-eqb r.direction 2 n) f, n, f)
 
-  pub waiting_is : T (is_outgoing d) → T (invoked d) → t ≡ with_soundness v (waiting_by c) → t ≡ passed_with q v r k
+  pub waiting_is : d.direction ≡ 1 → d.cdr ≡ 1 → t ≡ with_soundness v (waiting_by c) → t ≡ passed_with q v r k
   waiting_is s p h =
-      let i = is_true (is_outgoing r) (rw (← e₁) s) in
-      let n : r.direction ≡ 1 = eqb-true r.direction 1 i in
-      h ∙ rw (e₂, sound_waiting q.last r i (is_true (invoked r) (rw (← e₁) p)), n)
+      let n : r.direction ≡ 1 = rw (← e₁) s in
+      h ∙ rw (e₂, sound_waiting q.last r (eq-eqb r.direction 1 n) (eq-eqb r.cdr 1 (rw (← e₁) p)), n)
 
-  pub outgoing_is : T (is_outgoing d) → T (not (invoked d)) → t ≡ with_soundness v (outgoing_by c) → t ≡ passed_with q v r k
+  pub outgoing_is : d.direction ≡ 1 → (d.cdr ≡ 1 → ⊥) → t ≡ with_soundness v (outgoing_by c) → t ≡ passed_with q v r k
   outgoing_is s p h =
-      let i = is_true (is_outgoing r) (rw (← e₁) s) in
-      let n : r.direction ≡ 1 = eqb-true r.direction 1 i in
-      h ∙ rw (e₂, sound_outgoing_lem q.last r i (is_false (invoked r) (rw (← e₁) p)), n)
+      let n : r.direction ≡ 1 = rw (← e₁) s in
+      h ∙ rw (e₂, sound_outgoing_lem q.last r (eq-eqb r.direction 1 n) (ne_eqb r.cdr 1 (rw (← e₁) p)), n)
 
-  pub free_is : T (not (is_incoming d)) → T (not (is_outgoing d)) → t ≡ passed_free v c k → t ≡ passed_with q v r k
+  pub free_is : (d.direction ≡ 2 → ⊥) → (d.direction ≡ 1 → ⊥) → t ≡ passed_free v c k → t ≡ passed_with q v r k
   free_is s p h =
-      let i = is_false (is_incoming r) (rw (← e₁) s) in
-      let f = is_false (is_outgoing r) (rw (← e₁) p) in
-      h ∙ rw (e₂, sound_free q.last r i f, i)
+      let i = ne_eqb r.direction 2 (rw (← e₁) s) in
+      h ∙ rw (e₂, sound_free q.last r i (ne_eqb r.direction 1 (rw (← e₁) p)), i)

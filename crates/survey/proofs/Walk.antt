@@ -8,6 +8,7 @@ use native.Mathlib.Omega.{arith}
 use borrow.Author.Tests.{ne_eqb, eqb-true, eqb-false}
 use lib.Dec.{eqb}
 use lib.ListN.{length, get_or, take, drop, length-set, length-take, length-drop}
+use Rattle.std.specs.Prelude.{None, Some}
 use Rattle.ground.specs.Choice.{when◌then◌else◌}
 use Rattle.ground.proofs.Bools.{by_cases}
 use Rattle.timed.specs.Timed.{waits}
@@ -63,6 +64,15 @@ counted_any [] = refl
 counted_any (c ∷ rest) =
     by_cases (waits (request_in c)) (λ w. clash_more c rest w (counted_any rest)) (λ w. rw (w, adds_nothing (marked_of rest) (request_in c) w, add-zero) (counted_any rest))
 
+-- whose request is noted
+some_there : (b : Bool) (x id : ℕ) → (when b then Some x else None) ≡ Some id → (b ≡ true) × (x ≡ id)
+some_there true x id e = (refl, cc)
+some_there false x id e = absurd (cc)
+
+none_there : (b : Bool) (x : ℕ) → (when b then Some x else None) ≡ None → b ≡ false
+none_there true x e = absurd (cc)
+none_there false x e = refl
+
 module _ (q : Asked) (n : ℕ) (l : List Call) where
   -- what is noted, and marked, when the records from i on were seen
   abbrev pub seen : ℕ → Passed
@@ -96,40 +106,44 @@ module _ (q : Asked) (n : ℕ) (l : List Call) where
   set_none = rw (drop_all n l)
 
   module _ (i : ℕ) (h : 1 ≤ i) (m : i ≤ n) (k : n ≤ length l) where
-    one_more : drop (i - 1) (take n l) ≡ get_or l (i - 1) free_call ∷ drop i (take n l)
+    -- the record
+    abbrev r : Call
+    r = get_or l (i - 1) free_call
+
+    one_more : drop (i - 1) (take n l) ≡ r ∷ drop i (take n l)
     one_more = before i h m
       where
         before : (j : ℕ) → 1 ≤ j → j ≤ n → drop (j - 1) (take n l) ≡ get_or l (j - 1) free_call ∷ drop j (take n l)
         before zero g r = absurd (not-suc-le-zero g)
         before (suc j) g r = let e : suc j - 1 ≡ j = omega arith in rw e (drop_at j n l r k)
 
-    pub seen_next : passed_with q (seen i) (get_or l (i - 1) free_call) (i - 1) ≡ seen (i - 1)
+    pub seen_next : passed_with q (seen i) r (i - 1) ≡ seen (i - 1)
     unfolding passed_of
     seen_next = let e : suc (i - 1) ≡ i = omega (arith, h) in rw (one_more, e)
 
-    set_next : with_request (set_by i) (request_in (get_or l (i - 1) free_call)) ≡ set_by (i - 1)
+    set_next : with_request (set_by i) (request_in r) ≡ set_by (i - 1)
     unfolding marked_of
     set_next = rw one_more
 
-    twice_next : twice_by i + (when waits (request_in (get_or l (i - 1) free_call)) then count_in (get_or (set_by i).1 (word_of (request_in (get_or l (i - 1) free_call)).identifier) 0) (request_in (get_or l (i - 1) free_call)).identifier else 0)
+    twice_next : twice_by i + (when waits (request_in r) then count_in (get_or (set_by i).1 (word_of (request_in r).identifier) 0) (request_in r).identifier else 0)
         ≡ twice_by (i - 1)
     unfolding counted
     twice_next = rw one_more
 
     -- where the record's request is open the walk sets its mark, and else none: v is what is noted with the record
     module _ (v : Passed) (e : v ≡ seen (i - 1)) where
-      noted : v ≡ passed_with q (seen i) (get_or l (i - 1) free_call) (i - 1)
+      noted : v ≡ passed_with q (seen i) r (i - 1)
       noted = e ∙ sym seen_next
 
-      pub set_open : v.requested ≡ true → ((set_by i).0 || is_marked (set_by i).1 v.identifier, with_mark (set_by i).1 v.identifier) ≡ set_by (i - 1)
+      pub set_open : (id : ℕ) → v.requested ≡ Some id → ((set_by i).0 || is_marked (set_by i).1 id, with_mark (set_by i).1 id) ≡ set_by (i - 1)
       unfolding with_request
-      set_open t = let o = rw noted at t in rw (noted, o) (rw o at set_next)
+      set_open id t = let o = some_there (waits (request_in r)) (request_in r).identifier id (rw noted at t) in rw (← o.1) (rw o.0 at set_next)
 
-      pub set_else : v.requested ≡ false → set_by i ≡ set_by (i - 1)
-      set_else f = let o = rw noted at f in sym (adds_nothing (set_by i) (request_in (get_or l (i - 1) free_call)) o) ∙ set_next
+      pub set_else : v.requested ≡ None → set_by i ≡ set_by (i - 1)
+      set_else f = let o = none_there (waits (request_in r)) (request_in r).identifier (rw noted at f) in sym (adds_nothing (set_by i) (request_in r) o) ∙ set_next
 
-      pub twice_open : v.requested ≡ true → twice_by i + count_in (get_or (set_by i).1 (word_of v.identifier) 0) v.identifier ≡ twice_by (i - 1)
-      twice_open t = let o = rw noted at t in rw (noted, o) (rw o at twice_next)
+      pub twice_open : (id : ℕ) → v.requested ≡ Some id → twice_by i + count_in (get_or (set_by i).1 (word_of id) 0) id ≡ twice_by (i - 1)
+      twice_open id t = let o = some_there (waits (request_in r)) (request_in r).identifier id (rw noted at t) in rw (← o.1) (rw o.0 at twice_next)
 
-      pub twice_else : v.requested ≡ false → twice_by i ≡ twice_by (i - 1)
-      twice_else f = let o = rw noted at f in omega (arith, rw o at twice_next)
+      pub twice_else : v.requested ≡ None → twice_by i ≡ twice_by (i - 1)
+      twice_else f = let o = none_there (waits (request_in r)) (request_in r).identifier (rw noted at f) in omega (arith, rw o at twice_next)

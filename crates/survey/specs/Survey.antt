@@ -1,5 +1,5 @@
 -- What one walk notes of a table, from its last record to its first, and what it tells with the station's own requests.
-use Rattle.std.specs.Prelude.{ℕ, suc, Bool, true, false, ◌&&◌, not, List, [], ◌∷◌, eqb, ltb}
+use Rattle.std.specs.Prelude.{ℕ, suc, Bool, true, ◌&&◌, not, List, [], ◌∷◌, None, Some, eqb, ltb}
 use Rattle.ground.specs.Choice.{when◌then◌else◌}
 use Rattle.timed.specs.declared.Pending.{Pending}
 use Rattle.timed.specs.Timed.{waits}
@@ -22,7 +22,7 @@ due_with due p i by = when waits p && ltb p.start by then i else due
 
 -- nothing was seen yet of a table of n
 abbrev pub unseen_of : ℕ → Passed
-unseen_of n = record { sound = true; requested = false; identifier = 0; free = n; due = n }
+unseen_of n = record { sound = true; requested = None; free = n; due = n }
 
 -- the request that is noted of a record: in a sound table only an incoming call has one
 abbrev pub request_in : Call → Pending
@@ -32,29 +32,27 @@ request_in c = when is_incoming c then request_of c else record { start = 0; ide
 abbrev pub passed_with : Asked → Passed → Call → ℕ → Passed
 passed_with q v c i = record {
   sound = sound_call q.last c && v.sound;
-  requested = waits (request_in c);
-  identifier = when waits (request_in c) then (request_in c).identifier else 0;
+  requested = when waits (request_in c) then Some (request_in c).identifier else None;
   free = free_with v.free c i;
   due = due_with v.due (request_in c) i q.by;
 }
 
 -- the same by cases: of a call without an open request whether it is sound,
 abbrev pub with_soundness : Passed → Bool → Passed
-with_soundness v well = record { sound = well && v.sound; requested = false; identifier = 0; free = v.free; due = v.due }
+with_soundness v well = record { sound = well && v.sound; requested = None; free = v.free; due = v.due }
 
 -- of one with an open request also its identifier and its time,
 abbrev pub passed_open : Asked → Passed → Call → ℕ → Passed
 passed_open q v c i = record {
   sound = open_by q.last c && v.sound;
-  requested = true;
-  identifier = c.identifier;
+  requested = Some c.identifier;
   free = v.free;
   due = due_with v.due (request_of c) i q.by;
 }
 
 -- and of what is no call also whether it is free
 abbrev pub passed_free : Passed → Call → ℕ → Passed
-passed_free v c i = record { sound = free_by c && v.sound; requested = false; identifier = 0; free = free_with v.free c i; due = v.due }
+passed_free v c i = record { sound = free_by c && v.sound; requested = None; free = free_with v.free c i; due = v.due }
 
 -- what is noted of the records from the place i on, in a table of n
 unfoldable pub passed_of : Asked → ℕ → ℕ → List Call → Passed

@@ -4,7 +4,6 @@
 
 ghost use Rattle.std.specs.Prelude.{◌≡◌, ◌≤◌, ◌<◌, length, take, get_or};
 ghost use Rattle.call.specs.Record.{free_call, request_of};
-ghost use Rattle.sound.specs.Cases.{incoming_by, waiting_by, outgoing_by};
 ghost use Rattle.survey.specs.Survey.{free_with, due_with, unseen_of, passed_with, with_soundness, passed_open, passed_free, any_twice, summed_of, survey_of};
 
 use call::Call;
@@ -21,12 +20,11 @@ pub struct Asked {
     pub pending: Pendings,
 }
 
-// What is noted of the records from a place on; whether a request is open, and its identifier, of the record at that place alone.
+// What is noted of the records from a place on; the identifier of an open request of the record at that place alone.
 #[derive(Clone, Copy)]
 struct Passed {
     sound: bool,
-    requested: bool,
-    identifier: u16,
+    requested: Option<u16>,
     free: usize,
     due: usize,
 }
@@ -76,8 +74,7 @@ fn unseen(n: usize) -> Passed
 {
     Passed {
         sound: true,
-        requested: false,
-        identifier: 0,
+        requested: None,
         free: n,
         due: n,
     }
@@ -89,10 +86,8 @@ fn with_soundness(v: Passed, well: bool) -> Passed
 {
     Passed {
         sound: well & v.sound,
-        requested: false,
-        identifier: 0,
-        free: v.free,
-        due: v.due,
+        requested: None,
+        ..v
     }
 }
 
@@ -103,38 +98,11 @@ fn note_open(v: Passed, c: Call, i: usize, q: Asked) -> Passed
     let p = request_of(c);
     let well = sound::sound_open(c, q.last);
     let due = due_with(v.due, p, i, q.by);
-    let w = with_soundness(v, well);
     Passed {
-        sound: w.sound,
-        requested: true,
-        identifier: c.identifier,
-        free: w.free,
-        due: due,
+        requested: Some(c.identifier),
+        due,
+        ..with_soundness(v, well)
     }
-}
-
-// an incoming call with none,
-fn note_incoming(v: Passed, c: Call) -> Passed
-    ensures { result ≡ with_soundness v (incoming_by c) }
-{
-    let well = sound::sound_incoming(c);
-    with_soundness(v, well)
-}
-
-// an outgoing call with CDR Invoked,
-fn note_waiting(v: Passed, c: Call) -> Passed
-    ensures { result ≡ with_soundness v (waiting_by c) }
-{
-    let well = sound::sound_waiting(c);
-    with_soundness(v, well)
-}
-
-// an outgoing call outside Invoked,
-fn note_outgoing(v: Passed, c: Call) -> Passed
-    ensures { result ≡ with_soundness v (outgoing_by c) }
-{
-    let well = sound::sound_outgoing(c);
-    with_soundness(v, well)
 }
 
 // or no call.
@@ -143,13 +111,9 @@ fn note_free(v: Passed, c: Call, i: usize) -> Passed
 {
     let well = sound::sound_free(c);
     let free = free_with(v.free, c, i);
-    let w = with_soundness(v, well);
     Passed {
-        sound: w.sound,
-        requested: false,
-        identifier: 0,
-        free: free,
-        due: w.due,
+        free,
+        ..with_soundness(v, well)
     }
 }
 
@@ -165,16 +129,16 @@ fn note_at(table: &[Call], k: usize, v: Passed, q: Asked) -> Passed
             return note_open(v, c, k, q);
         } else {
             let c = slice::read(table, k);
-            return note_incoming(v, c);
+            return with_soundness(v, sound::sound_incoming(c));
         }
     }
     if head.direction == 1 {
         if head.cdr == 1 {
             let c = slice::read(table, k);
-            return note_waiting(v, c);
+            return with_soundness(v, sound::sound_waiting(c));
         } else {
             let c = slice::read(table, k);
-            return note_outgoing(v, c);
+            return with_soundness(v, sound::sound_outgoing(c));
         }
     }
     let c = slice::read(table, k);
@@ -185,8 +149,7 @@ fn note_at(table: &[Call], k: usize, v: Passed, q: Asked) -> Passed
 fn summed(v: Passed, twice: u64, marks: [u64; 8], q: Asked) -> Noted
     ensures { result ≡ summed_of v (any_twice twice, marks) q }
 {
-    let clash = !(twice == 0);
-    let m = marks::told(clash, marks, q.pending, q.next);
+    let m = marks::told(twice != 0, marks, q.pending, q.next);
     Noted {
         sound: v.sound,
         clash: m.clash,
@@ -204,18 +167,13 @@ pub fn survey(table: &[Call], n: usize, q: Asked) -> Noted
     let mut v = unseen(n);
     let mut marks = [0u64; 8];
     let mut twice: u64 = 0;
-    let mut i = n;
-    while 0 < i {
-        let k = i - 1;
+    for k in (0..n).rev() {
         v = note_at(table, k, v, q);
-        i = k;
-        if v.requested {
-            let w = marks::word_of(v.identifier);
+        if let Some(identifier) = v.requested {
+            let w = marks::word_of(identifier);
             let word = marks[w];
-            let again = marks::count_in(word, v.identifier);
-            twice = twice + again;
-            let more = marks::put_in(word, v.identifier);
-            marks[w] = more;
+            twice += marks::count_in(word, identifier);
+            marks[w] = marks::put_in(word, identifier);
         }
     }
     summed(v, twice, marks, q)

@@ -1,8 +1,8 @@
 // When a table is sound: the first `len` records of an array by value, and the identifiers of its open requests as a column.
 #![tactic(auto)]
 
-ghost use Rattle.std.specs.Prelude.{◌≡◌, ◌&&◌, ◌++◌, ◌≤◌, eqb, length, take, drop};
-ghost use Rattle.ground.specs.Lists.{all, any};
+ghost use Rattle.std.specs.Prelude.{◌≡◌, ◌&&◌, ◌++◌, ◌≤◌, take};
+ghost use Rattle.ground.specs.Lists.{all};
 ghost use Rattle.identifier.specs.Identifier.{distinct};
 ghost use Rattle.call.specs.Soundness.{sound_call};
 ghost use Rattle.timed.specs.Timed.{identifiers_of};
@@ -13,33 +13,14 @@ ghost use Rattle.table.specs.Column.{apart_in};
 use call::Call;
 use remote::Pendings;
 
-// Whether the column holds the number wanted, from a place on.
-fn stands_from(held: &[u32; 68], from: usize, wanted: u32) -> bool
-    requires { length held.now ≡ 68 }
-    ensures { result ≡ any (eqb wanted) (drop from held.now) }
-{
-    let mut j = from;
-    while j < 68 {
-        if held[j] == wanted {
-            return true;
-        }
-        j += 1;
-    }
-    false
-}
-
 // No two open requests share an identifier. From the last place to the first each number sets a mark; only where a mark was set already is the number
 // sought among those after it.
 pub fn apart(held: &[u32; 68]) -> bool
-    requires { length held.now ≡ 68 }
     ensures { result ≡ apart_in held.now }
 {
     let mut marks = [0u8; 256];
-    let mut i: usize = 68;
-    while 0 < i {
-        let k = i - 1;
+    for k in (0..68).rev() {
         let x = held[k];
-        i = k;
         if x == 0 {
             continue;
         }
@@ -48,7 +29,7 @@ pub fn apart(held: &[u32; 68]) -> bool
             marks[m] = 1;
             continue;
         }
-        if stands_from(held, k + 1, x) {
+        if held[k + 1..].contains(&x) {
             return false;
         }
     }
@@ -62,15 +43,12 @@ pub fn sound_table(calls: [Call; 64], len: usize, last: u64, p: Pendings) -> boo
     ensures { result ≡ (all (sound_call last) (take len calls) && distinct (requests_of (take len calls) ++ identifiers_of (timers_of p))) }
 {
     let mut held = [0u32; 64];
-    let mut i: usize = 0;
-    while i < len {
+    for i in 0..len {
         let c = calls[i];
         if !sound::sound_call(c, last) {
             return false;
         }
-        let id = draw::held_by(c);
-        held[i] = id;
-        i += 1;
+        held[i] = draw::held_by(c);
     }
     let column = draw::joined(&held, p);
     apart(&column)

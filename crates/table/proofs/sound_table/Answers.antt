@@ -1,7 +1,7 @@
 use mathlib.Core.Path.{◌≡◌, refl, sym, ap, ◌∙◌}
 use native.Mathlib.Omega.{arith}
 use borrow.Author.Rules.{rules}
-use lib.ListN.{length, length-set}
+use lib.ListN.{length}
 use Rattle.ground.specs.Lists.{all}
 use Rattle.ground.proofs.Walks.{all_on, all_off}
 use Rattle.call.specs.Record.{free_call}
@@ -15,7 +15,7 @@ use Rattle.table.proofs.sound_table.Goals as goal
 
 pub loop-i-init : goal.loop-i-init
 unfolding all
-loop-i-init c = (omega arith, refl, refl, refl)
+loop-i-init c = record { sound = refl; told = refl }
 
 pub returns-then-not-sound_call : goal.returns-then-not-sound_call
 returns-then-not-sound_call c =
@@ -27,17 +27,16 @@ pub loop-i-preserved : goal.loop-i-preserved
 loop-i-preserved c =
     let a = c.args in
     let v = c.loop-i in
-    let long : length a.calls ≡ 64 = search rules in (
-      omega arith,
-      simp length-set v.invariant.1,
-      all_on (sound_call a.last) a.calls v.i _ (omega arith) v.invariant.2 ((sym c.sound_call.ensures ∙ c.if-not-sound_call.false)),
-      rw (v.invariant.3, c.held_by-id.ensures, read_any a.calls v.i unread free_call (omega arith)) (column_next a.calls v.i (omega arith) (omega arith)),
-    )
+    let long : length a.calls ≡ 64 = search rules in
+    record {
+      sound = all_on (sound_call a.last) a.calls v.i _ (omega arith) v.invariant.sound ((sym c.sound_call.ensures ∙ c.if-not-sound_call.false));
+      told = rw (v.invariant.told, c.held_by.ensures, read_any a.calls v.i unread free_call (omega arith)) (column_next a.calls v.i (omega arith) (omega arith));
+    }
 
 pub returns : goal.returns
 returns c =
     let a = c.args in
     let e : c.loop-i.i ≡ a.len = omega arith in
-    let sound = rw e at c.loop-i.invariant.2 in
-    let told = rw e at c.loop-i.invariant.3 in
+    let sound = rw e at c.loop-i.invariant.sound in
+    let told = rw e at c.loop-i.invariant.told in
     c.apart.ensures ∙ ap apart_in (c.joined-column.ensures ∙ ap (λ l. joined_of l a.p) told) ∙ column_apart a.len a.calls a.p ∙ sym (rw sound)

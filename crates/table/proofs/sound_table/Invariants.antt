@@ -1,7 +1,6 @@
-use Prim.Native.Nat.{◌≤◌, ◌-◌}
 use mathlib.Core.Bool.{true}
 use mathlib.Core.Path.{◌≡◌}
-use lib.ListN.{take, length}
+use lib.ListN.{take}
 use Rattle.ground.specs.Lists.{all}
 use Rattle.call.specs.Soundness.{sound_call}
 use Rattle.draw.specs.Column.{column_of}
@@ -9,7 +8,4 @@ use Rattle.table.proofs.sound_table.Given as goal
 
 -- the first i records are sound, and their identifiers stand in the column
 abbrev pub invariant-loop-i : goal.invariant-loop-i
-invariant-loop-i l = (l.i ≤ l.len) × (length l.held ≡ 64) × (all (sound_call l.last) (take l.i l.calls) ≡ true) × (l.held ≡ column_of l.i l.calls)
-
-abbrev pub decreases-loop-i : goal.decreases-loop-i
-decreases-loop-i l = l.len - l.i
+invariant-loop-i l = record { sound : all (sound_call l.last) (take l.i l.calls) ≡ true; told : l.held ≡ column_of l.i l.calls }
