@@ -12,15 +12,7 @@ pub fn begin() -> Reading
 {
     Reading {
         line: 1,
-        numbers: 0,
-        begun: false,
-        value: 0,
-        start: 0,
-        cfu: 0,
-        cfb: 0,
-        cfnr: 0,
-        busy: 0,
-        fault: 0,
+        ..Reading::default()
     }
 }
 
@@ -28,18 +20,12 @@ pub fn begin() -> Reading
 fn panels_read(r: Reading) -> usize
     ensures { result ≡ panels_read r }
 {
-    let line = r.line;
-    if line < 2 { 0 } else { line - 2 }
+    r.line.saturating_sub(2)
 }
 
 // How many numbers of a plan with so much room are theirs.
 pub fn numbers_lent(r: Reading, room: usize) -> usize
     ensures { result ≡ numbers_lent r room }
 {
-    let panels = panels_read(r);
-    if panels < room / 4 {
-        panels * 4
-    } else {
-        room / 4 * 4
-    }
+    panels_read(r).min(room / 4) * 4
 }

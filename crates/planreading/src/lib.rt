@@ -11,11 +11,7 @@ use plantext::Reading;
 fn next_number(line: usize) -> usize
     ensures { result ≡ onward line }
 {
-    if line < 18446744073709551615 {
-        line + 1
-    } else {
-        line
-    }
+    line.saturating_add(1)
 }
 
 // How many numbers a line has before its last one.
@@ -28,22 +24,19 @@ fn numbers_before(line: usize) -> u8
 fn faulty(r: Reading) -> Reading
     ensures { result ≡ at_fault r }
 {
-    let mut next = r;
-    next.fault = r.line;
-    next
+    Reading { fault: r.line, ..r }
 }
 
 fn read_digit(r: Reading, digit: u8) -> Reading
     ensures { result ≡ digit_read r digit }
 {
-    let value = r.value as u32 * 10 + digit as u32;
-    if value <= 65535 {
-        let mut next = r;
-        next.begun = true;
-        next.value = value as u16;
-        next
-    } else {
-        faulty(r)
+    match u16::try_from(u32::from(r.value) * 10 + u32::from(digit)) {
+        Ok(value) => Reading {
+            begun: true,
+            value,
+            ..r
+        },
+        Err(_) => faulty(r),
     }
 }
 
@@ -51,17 +44,17 @@ fn read_digit(r: Reading, digit: u8) -> Reading
 fn read_space(r: Reading) -> Reading
     ensures { result ≡ space_read r }
 {
-    let before = numbers_before(r.line);
-    if r.begun & (r.numbers < before) {
-        let mut next = r;
-        next.numbers = r.numbers + 1;
-        next.begun = false;
-        next.value = 0;
-        next.cfu = r.cfb;
-        next.cfb = r.cfnr;
-        next.cfnr = r.busy;
-        next.busy = r.value;
-        next
+    if r.begun && r.numbers < numbers_before(r.line) {
+        Reading {
+            numbers: r.numbers + 1,
+            begun: false,
+            value: 0,
+            cfu: r.cfb,
+            cfb: r.cfnr,
+            cfnr: r.busy,
+            busy: r.value,
+            ..r
+        }
     } else {
         faulty(r)
     }
@@ -77,21 +70,21 @@ fn start_after(r: Reading) -> u16
 fn next_line(r: Reading) -> Reading
     ensures { result ≡ line_read r }
 {
-    let mut next = r;
-    next.line = next_number(r.line);
-    next.start = start_after(r);
-    next.numbers = 0;
-    next.begun = false;
-    next.value = 0;
-    next
+    Reading {
+        line: next_number(r.line),
+        start: start_after(r),
+        numbers: 0,
+        begun: false,
+        value: 0,
+        ..r
+    }
 }
 
 // Has the line all its numbers?
 fn whole_line(r: Reading) -> bool
     ensures { result ≡ whole_line r }
 {
-    let before = numbers_before(r.line);
-    r.begun & (r.numbers == before)
+    r.begun && r.numbers == numbers_before(r.line)
 }
 
 // A newline ends a line that has all its numbers.
@@ -106,19 +99,18 @@ fn read_newline(r: Reading) -> Reading
 }
 
 // One byte; behind a fault nothing is read.
+#[tactic(auto, unfolding(plantext::specs::Text::byte_read))]
 fn read_byte(r: Reading, byte: u8) -> Reading
     ensures { result ≡ byte_read r byte }
 {
-    if !(r.fault == 0) {
-        r
-    } else if (48 <= byte) & (byte <= 57) {
-        read_digit(r, byte - 48)
-    } else if byte == 32 {
-        read_space(r)
-    } else if byte == 10 {
-        read_newline(r)
-    } else {
-        faulty(r)
+    if r.fault != 0 {
+        return r;
+    }
+    match byte {
+        b'0'..=b'9' => read_digit(r, byte - b'0'),
+        b' ' => read_space(r),
+        b'\n' => read_newline(r),
+        _ => faulty(r),
     }
 }
 
@@ -126,7 +118,7 @@ fn read_byte(r: Reading, byte: u8) -> Reading
 fn mark_byte(mark: u16) -> u16
     ensures { result ≡ mark_byte mark }
 {
-    if mark < 255 { mark } else { 255 }
+    mark.min(255)
 }
 
 // The four numbers of the panel whose line was read.
@@ -134,59 +126,50 @@ fn put_panel(plan: &mut [u16], at: usize, r: Reading)
     requires { at + 4 ≤ length plan.old }
     ensures { plan.new ≡ wrote (packed r.cfu r.cfb r.cfnr r.busy r.value) at plan.old }
 {
-    let busy = mark_byte(r.busy);
-    let unattended = mark_byte(r.value);
-    let cfu = r.cfu;
-    let cfb = r.cfb;
-    let cfnr = r.cfnr;
-    plan[at] = cfu;
-    plan[at + 1] = cfb;
-    plan[at + 2] = cfnr;
-    plan[at + 3] = busy + unattended * 256;
+    let marks = mark_byte(r.busy) + mark_byte(r.value) * 256;
+    plan[at..at + 4].copy_from_slice(&[r.cfu, r.cfb, r.cfnr, marks]);
 }
 
 // Does this byte end a panel's line?
 fn ends_panel(r: Reading, byte: u8) -> bool
     ensures { result ≡ ends_panel r byte }
 {
-    let whole = whole_line(r);
-    (r.fault == 0) & (byte == 10) & whole & (2 <= r.line)
+    r.fault == 0 && byte == b'\n' && whole_line(r) && 2 <= r.line
 }
 
 // Stores the panel whose line this byte ends, if there is room for it.
+#[tactic(auto, unfolding(plantext::specs::Text::stored))]
 fn store_panel(plan: &mut [u16], r: Reading, byte: u8)
     ensures { plan.new ≡ stored r byte plan.old }
 {
-    let line = r.line;
-    if ends_panel(r, byte) & (line <= plan.len() / 4 + 1) {
-        put_panel(plan, (line - 2) * 4, r);
+    if ends_panel(r, byte) && r.line <= plan.len() / 4 + 1 {
+        put_panel(plan, (r.line - 2) * 4, r);
     }
 }
 
 // A piece of the text. Panels that the plan has no room for are read, and not stored.
+#[tactic(auto, using(crate::proofs::Folds::midway_start, crate::proofs::Folds::midway_next, crate::proofs::Folds::midway_end))]
 pub fn read_piece(r: Reading, plan: &mut [u16], bytes: &[u8]) -> Reading
     ensures value { result ≡ text_read r bytes.now }
     ensures plan_after { plan.new ≡ plan_after r bytes.now plan.old }
 {
     let mut next = r;
-    let mut i: usize = 0;
-    while i < bytes.len() {
-        let byte = bytes[i];
+    for &byte in bytes {
         store_panel(plan, next, byte);
         next = read_byte(next, byte);
-        i += 1;
     }
     next
 }
 
 // The end of the text.
+#[tactic(auto, using(plantext::proofs::Bytes::one_byte, plantext::proofs::Bytes::one_byte_plan, plantext::proofs::Bytes::no_bytes, plantext::proofs::Bytes::no_bytes_plan))]
 pub fn finish(r: Reading, plan: &mut [u16]) -> Reading
     ensures value { result ≡ text_read r (closing r) }
     ensures plan_after { plan.new ≡ plan_after r (closing r) plan.old }
 {
-    if r.begun | (0 < r.numbers) | (r.line <= 1) {
-        store_panel(plan, r, 10);
-        read_byte(r, 10)
+    if r.begun || 0 < r.numbers || r.line <= 1 {
+        store_panel(plan, r, b'\n');
+        read_byte(r, b'\n')
     } else {
         r
     }

@@ -5,7 +5,7 @@
 // whole, and `value` is the one that is being read, once its first digit is there (`begun`). Each whole number moves the ones
 // before it up a place, so that at the end of a panel's line each stands under its name. `fault` is the first line that is no part
 // of a plan, 0 while there is none.
-#[derive(Clone, Copy)]
+#[derive(Clone, Copy, Default)]
 pub struct Reading {
     pub line: usize,
     pub numbers: u8,
