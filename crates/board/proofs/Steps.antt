@@ -26,12 +26,10 @@ use Rattle.bits.specs.Mask.{weigh}
 use Rattle.expiry.specs.Expiry.{under, never, quiet_until}
 use Rattle.draw.specs.Column.{identifier_in, held_by}
 use Rattle.sight.specs.declared.Seen.{Seen}
-use Rattle.turn.specs.declared.Turn.{Turn}
-use Rattle.turn.specs.declared.Turn.TheVariants.{Refused, Far, Done}
 use Rattle.sight.specs.Sight.{place_of}
 use Rattle.outcome.specs.Outcome.{station_on, station_far}
 use Rattle.deed.specs.Deed.{acted_of, Doable}
-use Rattle.turn.specs.Turn.{turn_of, moved_of, outcome_of}
+use Rattle.turn.specs.Turn.{Turn, Refused, Far, Done, turn_of, moved_of, outcome_of}
 use Rattle.turn.proofs.Turns.{refused_number, done_there, done_doable}
 use Rattle.turn.proofs.Laws.{turn_steps}
 use Rattle.board.specs.declared.Board.{Board}

@@ -3,13 +3,14 @@
 #![tactic(auto)]
 
 ghost use Rattle.std.specs.Prelude.{◌≡◌, not, ◌&&◌, leb, eqb};
+ghost use Rattle.event.specs.Refusals.{code_of};
 ghost use Rattle.timed.specs.Timed.{waits};
 ghost use Rattle.remote.specs.Held.{pending_of, pendings_hold, remote_holds};
 ghost use Rattle.remote.specs.Rules.{its, remote_refusal};
 ghost use Rattle.holding.specs.Numbers.{number_of};
 ghost use Rattle.holding.specs.Idle.{four_idle, four_blank};
 
-use event::Event;
+use event::{Event, Refusal};
 use remote::{Pendings, Remote};
 use timed::Pending;
 
@@ -54,25 +55,25 @@ fn its(r: Remote, e: Event) -> Pending
     pending_of(e.kind % 4, pending)
 }
 
-fn number_of(p: Pending, kind: u8, identifier: u16) -> u8
-    ensures { result ≡ number_of p kind identifier }
+fn number_of(p: Pending, kind: u8, identifier: u16) -> Result<(), Refusal>
+    ensures { code_of result ≡ number_of p kind identifier }
 {
     if none_waits(p, kind) {
-        return 11;
+        return Err(Refusal::NotTaken);
     }
     if other_answer(p, kind, identifier) {
-        return 6;
+        return Err(Refusal::OtherIdentifier);
     }
     if already_asked(p, kind) {
-        return 9;
+        return Err(Refusal::PendingAlready);
     }
-    0
+    Ok(())
 }
 
 // Numbers 11, 6 and 9 of an event of kinds 16 to 31; else 0.
 #[tactic(auto, unfolding(remote::specs::Rules::remote_refusal))]
-pub fn remote_refusal(r: Remote, e: Event) -> u8
-    ensures { result ≡ remote_refusal r e }
+pub fn remote_refusal(r: Remote, e: Event) -> Result<(), Refusal>
+    ensures { code_of result ≡ remote_refusal r e }
 {
     let p = its(r, e);
     number_of(p, e.kind, e.identifier)

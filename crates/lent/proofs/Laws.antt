@@ -38,11 +38,9 @@ use Rattle.survey.specs.Survey.{survey_of}
 use Rattle.survey.proofs.Laws.{survey_sound, survey_free, survey_due}
 use Rattle.survey.proofs.Covers.{told_apart, told_free}
 use Rattle.sight.specs.declared.Seen.{Seen}
-use Rattle.turn.specs.declared.Turn.{Turn}
-use Rattle.turn.specs.declared.Turn.TheVariants.{Refused, Far, Done}
 use Rattle.outcome.specs.Outcome.{station_on, station_far}
 use Rattle.deed.specs.Deed.{acted_of}
-use Rattle.turn.specs.Turn.{seen_in, turn_of, moved_of, decided_of, Sees}
+use Rattle.turn.specs.Turn.{Turn, Refused, Far, Done, seen_in, turn_of, moved_of, decided_of, Sees}
 use Rattle.turn.proofs.Laws.{sees_in, same_act, same_moved, same_next, same_station, turn_same}
 use Rattle.pick.specs.declared.Input.{Input}
 use Rattle.pick.specs.declared.Pick.{Pick}

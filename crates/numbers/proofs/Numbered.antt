@@ -1,8 +1,9 @@
 -- The numbers of an event by its kind: an open, a clock event, an event on a call, one of kinds 16 to 31; and the code's order of the tests, which gives 8 where it gives 4 and has the page's numbers all the same. Assumes nothing.
 use Prim.Native.Nat.{ℕ, ◌≤◌, ◌<◌}
-use mathlib.Core.Bool.{Bool, true, false, ◌&&◌, ◌||◌, not, false≢true}
+use mathlib.Core.Bool.{Bool, true, false, ◌&&◌, ◌||◌}
 use mathlib.Core.List.{List}
 use mathlib.Core.Path.{◌≡◌, refl, sym, ◌∙◌}
+use Rattle.std.specs.Prelude.{Err}
 use native.Mathlib.Omega.{arith}
 use borrow.Author.Tests.{ne_eqb, lt-ltb, le-ltb, lt-leb, leb-true, ltb-true, ltb-false, eqb-true, eqb-false}
 use lib.Dec.{eqb, ltb, leb}
@@ -12,8 +13,11 @@ use Rattle.ground.specs.Lists.{first}
 use Rattle.ground.proofs.Bools.{by_cases, upheld}
 use Rattle.ground.proofs.Walks.{both, or_false}
 use Rattle.event.specs.declared.Event.{Event}
+use Rattle.event.specs.declared.Refusal.{Refusal}
+use Rattle.event.specs.declared.Refusal.TheVariants.{NotSound, Early, IllMade, NoSuchCall, OtherIdentifier, OverLimit, NoFreeRecord, PendingAlready, NotInBasicState, NotTaken}
 use Rattle.event.specs.Kinds.{opens, of_incoming, of_outgoing, ends}
 use Rattle.event.specs.Remote.{of_remote}
+use Rattle.event.specs.Refusals.{code_of}
 use Rattle.event.specs.WellMade.{well_made}
 use Rattle.call.specs.declared.Call.{Call}
 use Rattle.call.specs.Record.{is_free}
@@ -132,12 +136,25 @@ neither_one true b n = absurd (omega (arith, n))
 neither_one false true n = absurd (omega (arith, n))
 neither_one false false n = (refl, refl)
 
-module _ (c : Call) (e : Event) (state : ℕ) (q : state ≡ state_number c e) where
-  pub by_state : (number : ℕ) → not (eqb state 0) ≡ true → state ≡ (when basic_forbids c e then 10 else when state_forbids c e then 11 else number)
-  by_state number z = q ∙ goes_on_lem (basic_forbids c e) (state_forbids c e) number (λ x. false≢true (rw (q ∙ x) at z))
+-- a refusal has a number
+pub has_number : (r : Refusal) → code_of (Err r) ≡ 0 → ⊥
+has_number NotSound q = omega (arith, q)
+has_number Early q = omega (arith, q)
+has_number IllMade q = omega (arith, q)
+has_number NoSuchCall q = omega (arith, q)
+has_number OtherIdentifier q = omega (arith, q)
+has_number OverLimit q = omega (arith, q)
+has_number NoFreeRecord q = omega (arith, q)
+has_number PendingAlready q = omega (arith, q)
+has_number NotInBasicState q = omega (arith, q)
+has_number NotTaken q = omega (arith, q)
 
-  pub past_state : not (eqb state 0) ≡ false → (basic_forbids c e ≡ false) × (state_forbids c e ≡ false)
-  past_state z = neither_one (basic_forbids c e) (state_forbids c e) (sym q ∙ eqb-true state 0 (upheld (eqb state 0) (eqb state 0) refl z))
+module _ (c : Call) (e : Event) where
+  pub by_state : (r : Refusal) (number : ℕ) → code_of (Err r) ≡ state_number c e → code_of (Err r) ≡ (when basic_forbids c e then 10 else when state_forbids c e then 11 else number)
+  by_state r number q = q ∙ goes_on_lem (basic_forbids c e) (state_forbids c e) number (λ x. has_number r (q ∙ x))
+
+  pub past_state : 0 ≡ state_number c e → (basic_forbids c e ≡ false) × (state_forbids c e ≡ false)
+  past_state q = neither_one (basic_forbids c e) (state_forbids c e) (sym q)
 
 same_two : (b : Bool) (n : ℕ) → (when b then n else n) ≡ n
 same_two true n = refl

@@ -2,30 +2,31 @@
 #![tactic(auto)]
 
 ghost use Rattle.std.specs.Prelude.{◌≡◌, true, ◌≤◌};
+ghost use Rattle.event.specs.Refusals.{code_of};
 ghost use Rattle.event.specs.WellMade.{well_made};
 ghost use Rattle.numbers.specs.Numbers.{no_record, number_of};
 
-use event::Event;
+use event::{Event, Refusal};
 use sight::Seen;
 use station::Station;
 
 // "4: call past the table's end, .."; "8: kind 1 to 3: no free record"; a clock event with none due is done.
-fn no_record(kind: u8) -> u8
-    ensures { result ≡ no_record kind }
+fn no_record(kind: u8) -> Result<(), Refusal>
+    ensures { code_of result ≡ no_record kind }
 {
     match kind {
-        1..=3 => 8,
-        10 => 0,
-        _ => 4,
+        1..=3 => Err(Refusal::NoFreeRecord),
+        10 => Ok(()),
+        _ => Err(Refusal::NoSuchCall),
     }
 }
 
 // Numbers 4, 10, 11, 6, 7 and 8 of a well-made event of kinds 1 to 15; 0 is done. Tested in the page's order; 8 is given where 4 is, by the kind: an open
 // has none of the others. The kind comes by itself: as a literal it lets the compiler make each arm of `number_by_kind` a test of its own, as long as
 // what is left of this function for one kind is small. So the fields are tested before it.
-fn number(kind: u8, s: Station, e: Event, seen: Seen) -> u8
+fn number(kind: u8, s: Station, e: Event, seen: Seen) -> Result<(), Refusal>
     requires { (kind ≡ e.kind) × (kind ≤ 15) × (s.last ≤ e.time) × (well_made e ≡ true) }
-    ensures { result ≡ number_of s e seen }
+    ensures { code_of result ≡ number_of s e seen }
 {
     let c = seen.call;
     let beyond = seen.len <= seen.place;
@@ -33,24 +34,21 @@ fn number(kind: u8, s: Station, e: Event, seen: Seen) -> u8
     if beyond | wrong {
         return no_record(kind);
     }
-    let state = states::state_number(kind, c, e);
-    if !(state == 0) {
-        return state;
-    }
+    states::state_number(kind, c, e)?;
     if refusal::other_identifier(kind, c, e) {
-        return 6;
+        return Err(Refusal::OtherIdentifier);
     }
     if refusal::over_limit(kind, s, c, e) {
-        return 7;
+        return Err(Refusal::OverLimit);
     }
-    0
+    Ok(())
 }
 
 // The number of a well-made event by its kind, a literal in each arm of kinds 1 to 15; those of 16 to 31 have 11, 6 and 9. A well-made event has
 // no other kind: the last arm is never taken.
-pub fn number_by_kind(s: Station, e: Event, seen: Seen) -> u8
+pub fn number_by_kind(s: Station, e: Event, seen: Seen) -> Result<(), Refusal>
     requires { (s.last ≤ e.time) × (well_made e ≡ true) }
-    ensures { result ≡ number_of s e seen }
+    ensures { code_of result ≡ number_of s e seen }
 {
     let kind = e.kind;
     match kind {
@@ -70,6 +68,6 @@ pub fn number_by_kind(s: Station, e: Event, seen: Seen) -> u8
         14 => number(14, s, e, seen),
         15 => number(15, s, e, seen),
         16..=31 => holding::remote_refusal(s.remote, e),
-        _ => 3,
+        _ => Err(Refusal::IllMade),
     }
 }

@@ -2,10 +2,11 @@
 #![tactic(auto)]
 
 ghost use Rattle.std.specs.Prelude.{◌≡◌};
+ghost use Rattle.event.specs.Refusals.{code_of};
 ghost use Rattle.call.specs.State.{incoming_forbids, message_forbids, outgoing_forbids, incoming_basic_forbids, message_basic_forbids, outgoing_basic_forbids, ten_or_eleven, state_number};
 
 use call::Call;
-use event::Event;
+use event::{Event, Refusal};
 
 // Document 02, Eight: no sound record in the call's basic state takes the event. Here and below `basic_forbids` is that test, by the basic state
 // alone, and `forbids` the state rules'.
@@ -15,11 +16,11 @@ fn incoming_basic_forbids(kind: u8, c: Call, e: Event) -> bool
 {
     let fit = reasons::fits(e.reason, c);
     let basic = c.basic;
-    ((kind == 4) & !(basic == 1))
+    ((kind == 4) & (basic != 1))
         | ((kind == 5) & (basic == 3))
         | ((kind == 6) & !fit)
         | (((kind == 7) | (kind == 8)) & (basic == 3))
-        | ((kind == 9) & !(basic == 2))
+        | ((kind == 9) & (basic != 2))
 }
 
 fn incoming_forbids(kind: u8, c: Call, e: Event) -> bool
@@ -31,7 +32,7 @@ fn incoming_forbids(kind: u8, c: Call, e: Event) -> bool
     let granted = c.granted == 1;
     let leaving = (requested | granted) & ((c.reason == 1) | (c.reason == 2));
     let granted_cfnr = granted & (c.reason == 3);
-    ((kind == 4) & (!(c.basic == 1) | leaving))
+    ((kind == 4) & ((c.basic != 1) | leaving))
         | ((kind == 5) & ((c.basic == 3) | leaving))
         | ((kind == 6) & (!fit | (requested | granted)))
         | (((kind == 7) | (kind == 8)) & !requested)
@@ -42,9 +43,9 @@ fn message_basic_forbids(c: Call, e: Event) -> bool
     ensures { result ≡ message_basic_forbids c e }
 {
     if e.leg == 2 {
-        return (e.message == 1) | !(c.basic == 2);
+        return (e.message == 1) | (c.basic != 2);
     }
-    (c.basic == 3) & !(e.message == 4)
+    (c.basic == 3) & (e.message != 4)
 }
 
 fn message_forbids(c: Call, e: Event) -> bool
@@ -52,10 +53,10 @@ fn message_forbids(c: Call, e: Event) -> bool
 {
     let on_leg_2 = e.leg == 2;
     let facility = e.message == 1;
-    (on_leg_2 & !(c.cdr == 1))
+    (on_leg_2 & (c.cdr != 1))
         | (facility & on_leg_2)
-        | (facility & !(c.cdo == 1))
-        | ((c.basic == 3) & !(e.message == 4))
+        | (facility & (c.cdo != 1))
+        | ((c.basic == 3) & (e.message != 4))
 }
 
 fn outgoing_basic_forbids(kind: u8, c: Call, e: Event) -> bool
@@ -63,7 +64,7 @@ fn outgoing_basic_forbids(kind: u8, c: Call, e: Event) -> bool
     ensures { result ≡ outgoing_basic_forbids c e }
 {
     let message = message_basic_forbids(c, e);
-    ((kind == 12) & (e.leg == 2) & !(c.basic == 2))
+    ((kind == 12) & (e.leg == 2) & (c.basic != 2))
         | ((kind == 13) & (c.basic == 3))
         | ((kind == 14) & message)
 }
@@ -73,52 +74,52 @@ fn outgoing_forbids(kind: u8, c: Call, e: Event) -> bool
     ensures { result ≡ outgoing_forbids c e }
 {
     let message = message_forbids(c, e);
-    ((kind == 12) & (e.leg == 2) & !(c.cdr == 1))
+    ((kind == 12) & (e.leg == 2) & (c.cdr != 1))
         | ((kind == 13) & (c.basic == 3))
         | ((kind == 14) & message)
 }
 
 // "10 is tested first"
-fn split(none: bool, forbids: bool) -> u8
-    ensures { result ≡ ten_or_eleven none forbids }
+fn split(none: bool, forbids: bool) -> Result<(), Refusal>
+    ensures { code_of result ≡ ten_or_eleven none forbids }
 {
     if none {
-        10
+        Err(Refusal::NotInBasicState)
     } else if forbids {
-        11
+        Err(Refusal::NotTaken)
     } else {
-        0
+        Ok(())
     }
 }
 
-fn incoming_number(kind: u8, c: Call, e: Event) -> u8
+fn incoming_number(kind: u8, c: Call, e: Event) -> Result<(), Refusal>
     requires { kind ≡ e.kind }
-    ensures { result ≡ ten_or_eleven (incoming_basic_forbids c e) (incoming_forbids c e) }
+    ensures { code_of result ≡ ten_or_eleven (incoming_basic_forbids c e) (incoming_forbids c e) }
 {
     let none = incoming_basic_forbids(kind, c, e);
     let forbids = incoming_forbids(kind, c, e);
     split(none, forbids)
 }
 
-fn outgoing_number(kind: u8, c: Call, e: Event) -> u8
+fn outgoing_number(kind: u8, c: Call, e: Event) -> Result<(), Refusal>
     requires { kind ≡ e.kind }
-    ensures { result ≡ ten_or_eleven (outgoing_basic_forbids c e) (outgoing_forbids c e) }
+    ensures { code_of result ≡ ten_or_eleven (outgoing_basic_forbids c e) (outgoing_forbids c e) }
 {
     let none = outgoing_basic_forbids(kind, c, e);
     let forbids = outgoing_forbids(kind, c, e);
     split(none, forbids)
 }
 
-// 10 or 11 where "The state rules below don't take the event", else 0: by the groups of kinds.
-pub fn state_number(kind: u8, c: Call, e: Event) -> u8
+// 10 or 11 where "The state rules below don't take the event": by the groups of kinds.
+pub fn state_number(kind: u8, c: Call, e: Event) -> Result<(), Refusal>
     requires { kind ≡ e.kind }
-    ensures { result ≡ state_number c e }
+    ensures { code_of result ≡ state_number c e }
 {
     match kind {
-        1..=3 => 0,
+        1..=3 => Ok(()),
         4..=9 | 15 => incoming_number(kind, c, e),
-        10 | 11 => 0,
+        10 | 11 => Ok(()),
         12..=14 => outgoing_number(kind, c, e),
-        _ => 0,
+        _ => Ok(()),
     }
 }

@@ -22,9 +22,7 @@ use Rattle.sight.proofs.Sorts.{kind_low, kind_high}
 use Rattle.numbers.specs.Numbers.{number_of}
 use Rattle.numbers.proofs.Numbered.{by_seen, numbers_early}
 use Rattle.deed.specs.Deed.{Doable}
-use Rattle.turn.specs.declared.Turn.{Turn}
-use Rattle.turn.specs.declared.Turn.TheVariants.{Refused, Far, Done}
-use Rattle.turn.specs.Turn.{turn_of}
+use Rattle.turn.specs.Turn.{Turn, Refused, Far, Done, turn_of}
 
 -- a test was passed where the number is 0
 passed : (b : Bool) (k n : ℕ) → (when b then k else n) ≡ 0 → (k ≡ 0 → ⊥) → (b ≡ false) × (n ≡ 0)

@@ -1,8 +1,10 @@
 -- One event decided without the table: on what is seen of it.
-use Rattle.std.specs.Prelude.{◌≤◌, ◌<◌, true, ◌||◌, not, List, ◌≡◌, eqb, length, set}
+use Rattle.std.specs.Prelude.{ℕ, ◌≤◌, ◌<◌, true, ◌||◌, not, List, ◌≡◌, eqb, length, set, Result, Ok, Err}
 use Rattle.ground.specs.Choice.{when◌then◌else◌}
 use Rattle.event.specs.declared.Event.{Event}
+use Rattle.event.specs.declared.Refusal.{Refusal}
 use Rattle.event.specs.Kinds.{diverts}
+use Rattle.event.specs.Refusals as refusals
 use Rattle.event.specs.Remote.{asks, of_remote}
 use Rattle.call.specs.declared.Call.{Call}
 use Rattle.remote.specs.declared.Moved.{Moved}
@@ -16,8 +18,14 @@ use Rattle.sight.specs.Sight.{beyond}
 use Rattle.numbers.specs.Numbers.{number_of}
 use Rattle.deed.specs.Deed.{acted_of}
 use Rattle.outcome.specs.Outcome.{station_on, station_far}
-use Rattle.turn.specs.declared.Turn.{Turn}
-use Rattle.turn.specs.declared.Turn.TheVariants.{Refused, Far, Done}
+use Rattle.turn.specs.declared.DoneOn.{DoneOn}
+use Rattle.turn.specs.declared.DoneOn.TheVariants.{Held, Record}
+
+-- what becomes of an event: refused, by its number; done on what the station holds; done on the record at its place
+pub data Turn : Type 0 where
+  Refused : (code : ℕ) → Turn
+  Far : Turn
+  Done : Turn
 
 -- what an event needs of the table
 abbrev pub seen_in : Station → List Call → Event → Seen
@@ -29,6 +37,12 @@ turn_of s e v =
     when not (eqb (number_of s e v) 0) then Refused (number_of s e v) else
     when of_remote e || beyond v then Far else
     Done
+
+-- the turn that the code's result stands for
+abbrev pub turn_by : Result DoneOn Refusal → Turn
+turn_by (Err r) = Refused (refusals.number_of r)
+turn_by (Ok Held) = Far
+turn_by (Ok Record) = Done
 
 -- what an event that acts on no record does to what the station holds
 abbrev pub moved_of : Station → Event → Seen → Moved

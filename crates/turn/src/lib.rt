@@ -3,41 +3,35 @@
 #![tactic(auto)]
 
 ghost use Rattle.std.specs.Prelude.{◌≡◌};
-ghost use Rattle.turn.specs.Turn.{turn_of};
+ghost use Rattle.turn.specs.Turn.{turn_of, turn_by};
 
-use event::Event;
+use event::{Event, Refusal};
 use sight::Seen;
 use station::Station;
 
-// What becomes of an event: refused, by its number; done on what the station holds, as `follow::step` says (kinds 16 to 31,
-// and a clock event with no T1 request due); done on the record at its place, as `deed::acted` says.
-#[derive(Clone, Copy)]
-pub enum Turn {
-    Refused(u8),
-    Far,
-    Done,
+// On what an event is done: what the station holds, as `follow::step` says (kinds 16 to 31, and a clock event with no T1 request
+// due); the record at its place, as `deed::acted` says.
+#[derive(Clone, Copy, PartialEq, Eq)]
+pub enum DoneOn {
+    Held,
+    Record,
 }
 
 // One event where the table was found sound.
-pub fn turned(s: Station, e: Event, seen: Seen) -> Turn
-    ensures { result ≡ turn_of s e seen }
+pub fn turned(s: Station, e: Event, seen: Seen) -> Result<DoneOn, Refusal>
+    ensures { turn_by result ≡ turn_of s e seen }
 {
-    let kind = e.kind;
     if e.time < s.last {
-        return Turn::Refused(2);
+        return Err(Refusal::Early);
     }
-    let made = wellmade::well_made(kind, e);
-    if !made {
-        return Turn::Refused(3);
+    if !wellmade::well_made(e.kind, e) {
+        return Err(Refusal::IllMade);
     }
-    let code = numbers::number_by_kind(s, e, seen);
-    if code == 0 {
-        let remote = (16 <= kind) & (kind <= 31);
-        let none_due = seen.len <= seen.place;
-        if remote | none_due {
-            return Turn::Far;
-        }
-        return Turn::Done;
+    numbers::number_by_kind(s, e, seen)?;
+    let remote = (16 <= e.kind) & (e.kind <= 31);
+    let none_due = seen.len <= seen.place;
+    if remote | none_due {
+        return Ok(DoneOn::Held);
     }
-    Turn::Refused(code)
+    Ok(DoneOn::Record)
 }
