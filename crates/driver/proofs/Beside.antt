@@ -1,9 +1,11 @@
 -- What a driver keeps, as what is kept beside a table: at the start, with the bound found anew, after a store. Assumes nothing.
 use Prim.Native.Nat.{ℕ, ◌+◌, ◌-◌, ◌≤◌, ◌<◌, min}
 use mathlib.Core.Path.{◌≡◌, ap, ◌∙◌}
+use native.Mathlib.Omega.{arith}
 use lib.ListN.{length, get_or, set, length-map}
 use Rattle.call.specs.declared.Call.{Call}
 use Rattle.call.specs.Record.{free_call, is_free}
+use Rattle.call.proofs.Read.{unread, read_any}
 use Rattle.station.specs.declared.Station.{Station}
 use Rattle.bits.specs.Mask.{weigh}
 use Rattle.expiry.specs.Expiry.{refreshed_of, quiet_until}
@@ -46,14 +48,19 @@ module _ (b : Board) (d : Notes) (long : length b.calls ≡ 64) (w : Kept b d) w
     kept = to_notes b d w;
   }
 
-  -- a store
-  pub kept_done : (s : Station) (i free' soon' due id : ℕ) (x : Call) → i < b.len → free' ≡ d.free + weigh (is_free x) i - weigh (is_free (get_or b.calls i free_call)) i
+  -- what is read of the array is a record of the table
+  same_read : (i : ℕ) → i < b.len → get_or b.calls i unread ≡ get_or b.calls i free_call
+  same_read i h = read_any b.calls i unread free_call (omega (arith, long, w.short))
+
+  -- what the change of the mask asks
+  pub kept_flips : (i : ℕ) (x : Call) → i < b.len
+      → (i < 64) × (weigh (is_free (get_or b.calls i unread)) i ≤ d.free) × (d.free + weigh (is_free x) i < 18446744073709551616 + weigh (is_free (get_or b.calls i unread)) i)
+  kept_flips i x h = rw (same_read i h) (may_flip b.len b.calls d.free d.soon d.dues d.held w.short beside i x h)
+
+  -- after a store
+  pub kept_done : (s : Station) (i free' soon' due id : ℕ) (x : Call) → i < b.len → free' ≡ d.free + weigh (is_free x) i - weigh (is_free (get_or b.calls i unread)) i
       → due ≡ quiet_until x → soon' ≡ min d.soon due → id ≡ held_by x
       → Kept (record b { station = s; calls = set b.calls i x }) (record { free = free'; soon = soon'; dues = set d.dues i due; held = set d.held i id })
   kept_done s i free' soon' due id x h f q p v =
       of_notes (record b { station = s; calls = set b.calls i x }) _ w.short
-      (beside_next b.len b.calls d.free d.soon d.dues d.held w.short beside i free' soon' due id x h f q p v).kept
-
-  pub kept_flips : (i : ℕ) (x : Call) → i < b.len
-      → (i < 64) × (weigh (is_free (get_or b.calls i free_call)) i ≤ d.free) × (d.free + weigh (is_free x) i < 18446744073709551616 + weigh (is_free (get_or b.calls i free_call)) i)
-  kept_flips i x h = may_flip b.len b.calls d.free d.soon d.dues d.held w.short beside i x h
+      (beside_next b.len b.calls d.free d.soon d.dues d.held w.short beside i free' soon' due id x h (rw (same_read i h) at f) q p v).kept

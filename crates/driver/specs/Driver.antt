@@ -1,5 +1,5 @@
 -- One event on the board that a driver stands for.
-use Rattle.std.specs.Prelude.{ℕ, ◌<◌, ◌≡◌, Result, Ok, Err, is_ok, eqb}
+use Rattle.std.specs.Prelude.{◌<◌, ◌≡◌, Result, Ok, Err, is_ok, eqb}
 use Rattle.event.specs.declared.Event.{Event}
 use Rattle.event.specs.declared.Refusal.{Refusal}
 use Rattle.event.specs.Refusals.{number_of}
@@ -16,12 +16,12 @@ abbrev pub outcome_on : Board → Event → Outcome
 outcome_on b e = step_on_sound b.station (table_of b) e
 
 -- the answer that is told: "A refusal's answer is its number and otherwise empty"
-abbrev pub told : Result Answer ℕ → Answer
+abbrev pub told : Result Answer Refusal → Answer
 told (Ok a) = a
-told (Err r) = empty_answer r
+told (Err r) = empty_answer (number_of r)
 
 -- what an event is answered with, done or refused, and the board after it
-pub record Drives (b : Board) (e : Event) (r : Result Answer ℕ) (after : Board) : Type 0 where
+pub record Drives (b : Board) (e : Event) (r : Result Answer Refusal) (after : Board) : Type 0 where
   pub answer : told r ≡ (outcome_on b e).answer
   pub done : is_ok r ≡ eqb (outcome_on b e).answer.code 0
   pub board : after ≡ board_with b (outcome_on b e).station (outcome_on b e).calls

@@ -10,12 +10,12 @@ ghost use Rattle.outcome.specs.Outcome.{station_on, station_far};
 ghost use Rattle.driver.specs.Driver.{Drives, Reads};
 
 use board::Board;
-use event::Event;
+use event::{Event, Refusal};
 use notes::Notes;
 use sight::Seen;
 use station::Answer;
 use std::marker::Model;
-use turn::Turn;
+use turn::DoneOn;
 
 #[derive(Drop)]
 pub struct Driver {
@@ -55,7 +55,7 @@ impl Driver {
     }
 
     // One event where the table was found sound: done, with its answer, or refused, and nothing has changed.
-    pub fn play(&mut self, e: Event) -> Result<Answer, u8>
+    pub fn play(&mut self, e: Event) -> Result<Answer, Refusal>
         ensures { Drives self.old e result self.new }
     {
         let s = self.board.station;
@@ -69,15 +69,14 @@ impl Driver {
             identifier: identifier,
             call: c,
         };
-        match turn::turned(s, e, seen) {
-            Turn::Refused(code) => Err(code),
-            Turn::Far => Ok(self.far(e, identifier)),
-            Turn::Done => Ok(self.done(e, seen)),
+        match turn::turned(s, e, seen)? {
+            DoneOn::Held => Ok(self.on_held(e, identifier)),
+            DoneOn::Record => Ok(self.on_record(e, seen)),
         }
     }
 
     // An event that is done on what the station holds.
-    fn far(&mut self, e: Event, identifier: u16) -> Answer
+    fn on_held(&mut self, e: Event, identifier: u16) -> Answer
         ensures answer { result ≡ far_answer (step self.old.station.remote e identifier) }
         ensures board { self.new ≡ record self.old { station = station_far self.old.station e identifier (step self.old.station.remote e identifier).remote } }
     {
@@ -90,23 +89,30 @@ impl Driver {
 
     // An event that is done on the record at its place. It is read once more: what no test has looked at is loaded here, and only
     // for an event that is done.
-    fn done(&mut self, e: Event, seen: Seen) -> Answer
+    fn on_record(&mut self, e: Event, seen: Seen) -> Answer
         requires read { Reads self.old seen }
         requires doable { Doable e seen }
         ensures answer { result ≡ answer_of seen.place (acted_of e seen) }
         ensures board { self.new ≡ record self.old { station = station_on self.old.station e seen.identifier; calls = set self.old.calls seen.place (acted_of e seen).call } }
     {
+        let s = self.board.station;
         let i = seen.place;
         let again = self.board.calls[i];
-        let x = deed::acted(e, Seen { call: again, ..seen });
+        let x = deed::acted(
+            e,
+            Seen {
+                call: again,
+                ..seen
+            },
+        );
         let d = x.call;
         self.board.calls[i] = d;
         self.notes.free = bits::flip(self.notes.free, i, again.direction, d.direction);
         let due = expiry::quiet_until(d);
         self.notes.dues[i] = due;
-        self.notes.soon = expiry::sooner(self.notes.soon, due);
+        self.notes.soon = self.notes.soon.min(due);
         self.notes.held[i] = draw::held_by(d);
-        self.board.station = outcome::station_on(self.board.station, e, seen.identifier);
+        self.board.station = outcome::station_on(s, e, seen.identifier);
         outcome::answer_of(i as u8, x)
     }
 }
