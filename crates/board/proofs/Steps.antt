@@ -19,6 +19,7 @@ use Rattle.call.proofs.Read.{unread, read_any}
 use Rattle.remote.specs.declared.Moved.{Moved}
 use Rattle.station.specs.declared.Station.{Station}
 use Rattle.station.specs.Table.{sound}
+use Rattle.station.specs.Table as table
 use Rattle.station.specs.Refusals.{refusal}
 use Rattle.station.specs.Step.{answer_of, far_answer, by_number, step, step_on_sound}
 use Rattle.bits.specs.Mask.{weigh}
@@ -34,12 +35,13 @@ use Rattle.turn.proofs.Laws.{turn_steps}
 use Rattle.board.specs.declared.Board.{Board}
 use Rattle.board.specs.Board.{table_of, sound_board, within}
 use Rattle.board.proofs.OneEvent.{put_back, step_board, step_sound_board}
-use Rattle.board.proofs.Boards.{refused_board, far_board, done_board, back_refused, back_far, back_done, tested_short, within_near}
+use Rattle.board.proofs.Boards.{refused_board, far_board, done_board, back_refused, back_far, back_done, within_near}
+use Rattle.board.proofs.Found.{table_at}
 use Rattle.board.proofs.Sees.{sees_notes}
 use Rattle.board.proofs.Beside.{notes, board_now, Beside, beside_next, may_flip}
 
 -- what a run sees of its table when it has read the record at `i`, the turn that is decided on it, and what it then stores and keeps beside the table
-module _ (b : Board) (s : Station) (calls : List Call) (free soon : ℕ) (dues held : List ℕ) (e : Event) (ok : sound_board b ≡ true) (w : Beside b.len calls (notes free soon dues held)) (late : e.time ≤ never)
+module _ (b : Board) (s : Station) (calls : List Call) (free soon : ℕ) (dues held : List ℕ) (e : Event) (short : b.len ≤ 64) (w : Beside b.len calls (notes free soon dues held)) (late : e.time ≤ never)
     (place i identifier : ℕ) (at : place ≡ place_of e (count_trailing_zeros 64 free) (first (under e.time) dues)) (read : i ≡ within place b.len) (drawn : identifier ≡ identifier_in e held s.remote.pending s.next)
     (t : Turn) (r : t ≡ turn_of s e (record { len = b.len; place = place; identifier = identifier; call = get_or calls i unread })) where
   abbrev board : Board
@@ -47,9 +49,6 @@ module _ (b : Board) (s : Station) (calls : List Call) (free soon : ℕ) (dues h
 
   abbrev v : Seen
   v = record { len = b.len; place = place; identifier = identifier; call = get_or calls i unread }
-
-  short : b.len ≤ 64
-  short = tested_short b ok
 
   near : place < b.len → i ≡ place
   near l = read ∙ within_near place b.len l
@@ -74,6 +73,10 @@ module _ (b : Board) (s : Station) (calls : List Call) (free soon : ℕ) (dues h
 
   placed : t ≡ Done → place < b.len
   placed q = done_there s e v (sym r ∙ q)
+
+  -- what was read is the record of the table
+  pub turn_read : t ≡ Done → (place < b.len) × (get_or calls i unread ≡ table.at (table_of board) place)
+  turn_read q = (placed q, there (placed q) ∙ sym (table_at b.len calls short w.long place (placed q)))
 
   pub turn_doable : t ≡ Done → s.limit < 256 → Doable e v
   turn_doable q l = done_doable s e v (sym r ∙ q) l

@@ -2,7 +2,7 @@
 // where an event acts on it, by what the run keeps beside it.
 #![tactic(auto)]
 
-ghost use Rattle.std.specs.Prelude.{◌≡◌, true, ℕ, ◌≤◌, length};
+ghost use Rattle.std.specs.Prelude.{◌≡◌, true};
 ghost use Rattle.std.specs.Int.Count.{count_trailing_zeros};
 ghost use Rattle.ground.specs.Lists.{first, all};
 ghost use Rattle.expiry.specs.Expiry.{at_least, under};
@@ -51,7 +51,7 @@ pub fn sound_board(b: Board) -> bool
 
 // Where an event acts; the column of due times is looked at for a clock event only.
 pub fn place_on(e: Event, free: u64, soon: u64, dues: &[u64; 64]) -> usize
-    requires { (length dues.now ≡ 64) × (all (at_least soon) dues.now ≡ true) }
+    requires { all (at_least soon) dues.now ≡ true }
     ensures { result ≡ place_of e (count_trailing_zeros 64 free) (first (under e.time) dues.now) }
 {
     if e.kind == 10 {

@@ -1,5 +1,4 @@
 pub mod Boards
 pub mod Playing
-pub mod InPlace
 pub mod Records
 pub mod Determined

@@ -6,12 +6,17 @@ use mathlib.Core.Path.{◌≡◌, refl, sym, ◌∙◌}
 use native.Mathlib.Nat.{add-zero, sub-zero}
 use native.Mathlib.Omega.{arith}
 use lib.ListN.{length}
+use Rattle.std.specs.Prelude.{Result}
 use Rattle.event.specs.declared.Event.{Event}
+use Rattle.event.specs.declared.Refusal.{Refusal}
 use Rattle.wire.specs.Record.{event_at, events_from}
+use Rattle.station.specs.declared.Answer.{Answer}
 use Rattle.board.specs.declared.Board.{Board}
 use Rattle.board.specs.Board.{table_of, sound_board}
-use Rattle.board.proofs.OneEvent.{Stepped, step_board}
+use Rattle.board.proofs.OneEvent.{Stepped, step_board, step_sound_board}
 use Rattle.board.proofs.Boards.{tested_short}
+use Rattle.board.proofs.Steps.{tested_step}
+use Rattle.driver.specs.Driver.{told, Drives}
 use Rattle.board.proofs.Kept.{board_kept}
 use Rattle.printout.specs.Line.{line, printed}
 use Rattle.printout.specs.Panel.{lines_text}
@@ -75,6 +80,13 @@ module _ (b : Board) (position : ℕ) (bytes old : List ℕ) (n : ℕ) where
           let rest = events_from bytes ((i + 1) * 24) (n - (i + 1)) in
           rw (q, p) (sym (after_more board (event_at bytes (i * 24)) rest (tested_short board w.sound)) ∙ rw (events_next i h) at w.left);
     }
+
+    -- the line of what the driver tells
+    pub playing_told : (e : Event) (r : Result Answer Refusal) (after : Board) (out' : List ℕ) (at' : ℕ) → e ≡ event_at bytes (i * 24) → Drives board e r after
+        → Written (line (position + i) (told r)) at out out' at' → at' ≤ at + 67 → n * 96 ≤ length old → length out' ≡ length out
+        → Playing b position bytes old n after out' at' (i + 1)
+    playing_told e r after out' at' p x t m l s =
+        rw x.board (playing_next e (step_sound_board board e) out' at' p (tested_step board e w.sound) (rw x.answer at t) m l s)
 
   -- at the end nothing is left
   module _ (board : Board) (out : List ℕ) (at i : ℕ) (w : Playing b position bytes old n board out at i) (h : n ≤ i) where
