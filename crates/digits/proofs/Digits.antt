@@ -8,8 +8,10 @@ use lib.Dec.{ltb}
 use lib.ListN.{length, length-append}
 use Rattle.ground.proofs.Bools.{by_cases}
 use Rattle.digits.specs.Digits.{digit, digits, decimal}
+use Rattle.digits.specs.declared.Text.{Text}
 use Rattle.digits.specs.Written.{Written}
-use Rattle.digits.proofs.Texts.{and_then}
+use Rattle.digits.specs.Text.{Wrote}
+use Rattle.digits.proofs.Texts.{and_then, wrote_at_most}
 
 -- a number below a power of ten has that many digits at most
 digits_within : (most k n : ℕ) → n < 10 ^ suc k → length (digits most n) ≤ suc k
@@ -22,6 +24,24 @@ digits_within (suc more) (suc k) n h =
 
 pub decimal_within : (k n : ℕ) → n < 10 ^ suc k → length (decimal n) ≤ suc k
 decimal_within k n h = digits_within 20 k n h
+
+-- the numbers of 8, 16 and 64 bits
+module _ (n : ℕ) where
+  pub decimal_8 : n < 256 → length (decimal n) ≤ 3
+  decimal_8 h = decimal_within 2 n (omega arith)
+
+  pub decimal_16 : n < 65536 → length (decimal n) ≤ 5
+  decimal_16 h = decimal_within 4 n (omega arith)
+
+  pub decimal_64 : n < 2 ^ 64 → length (decimal n) ≤ 20
+  decimal_64 h = decimal_within 19 n (omega arith)
+
+module _ {n : ℕ} {t u : Text} (w : Wrote 20 (decimal n) t u) where
+  pub wrote_8 : n < 256 → Wrote 3 (decimal n) t u
+  wrote_8 h = wrote_at_most w (decimal_8 n h)
+
+  pub wrote_16 : n < 65536 → Wrote 5 (decimal n) t u
+  wrote_16 h = wrote_at_most w (decimal_16 n h)
 
 digits_one : (most n : ℕ) → n < 10 → digits (suc most) n ≡ digit n ∷ []
 unfolding digits
@@ -65,13 +85,6 @@ two_more n h k =
     omega (arith, decimal_within 19 n (omega arith))
 
 -- the number as it was written
-module _ (n at : ℕ) (old new : List ℕ) (r : ℕ) where
-  pub written_one : n < 10 → Written (digit n ∷ []) at old new r → Written (decimal n) at old new r
-  written_one h w = rw (decimal_one n h) w
-
-  pub written_pair : 10 ≤ n → n < 100 → Written (digit (n / 10) ∷ digit (n % 10) ∷ []) at old new r → Written (decimal n) at old new r
-  written_pair h k w = rw (decimal_pair n h k) w
-
-  pub written_two : (mid : List ℕ) (next : ℕ) → 100 ≤ n → n < 2 ^ 64 → at + 20 ≤ length old → Written (decimal (n / 100)) at old mid next
-      → Written (digit (n % 100 / 10) ∷ digit (n % 100 % 10) ∷ []) next mid new r → Written (decimal n) at old new r
-  written_two mid next h k l p q = rw (decimal_two n h k) (and_then p q (omega (arith, p.next, two_more n h k)))
+pub written_two : (n at : ℕ) (old mid new : List ℕ) (next r : ℕ) → 100 ≤ n → n < 2 ^ 64 → at + 20 ≤ length old
+    → Written (decimal (n / 100)) at old mid next → Written (digit (n % 100 / 10) ∷ digit (n % 100 % 10) ∷ []) next mid new r → Written (decimal n) at old new r
+written_two n at old mid new next r h k l p q = rw (decimal_two n h k) (and_then p q (omega (arith, p.next, two_more n h k)))

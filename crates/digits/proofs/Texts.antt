@@ -7,7 +7,9 @@ use native.Mathlib.Numerals.{add-one, add-two, add-three}
 use native.Mathlib.Omega.{arith}
 use lib.ListN.{length, take, drop, set, length-append, length-take}
 use lib.Seq.{take_at, drop-append-add, drop-drop, sets, sets-eq, paste-zero}
+use Rattle.digits.specs.declared.Text.{Text}
 use Rattle.digits.specs.Written.{wrote, Written}
+use Rattle.digits.specs.Text.{Wrote}
 
 module _ (bytes : List ℕ) (at : ℕ) (old : List ℕ) (h : at + length bytes ≤ length old) where
   -- what stands before and what was written, together
@@ -57,3 +59,19 @@ written_within {bytes} {old} w e =
 -- no bytes
 pub unwritten : (at : ℕ) (old : List ℕ) → Written [] at old old at
 unwritten at old = record { text = paste-zero old at []; next = sym (add-zero at) }
+
+-- no bytes, and a piece behind another, in one text
+pub wrote_nothing : (t : Text) → t.at ≤ length t.out.now → Wrote 0 [] t t
+wrote_nothing t h = record { written = unwritten t.at t.out.now; upper_bound = omega arith; within = h; same_length = refl; same_reference = refl }
+
+pub wrote_then : {m n : ℕ} {a b : List ℕ} {t u v : Text} → Wrote m a t u → Wrote n b u v → Wrote (m + n) (a ++ b) t v
+wrote_then {m} {n} {a} {b} p q = record {
+  written = and_then p.written q.written (omega (arith, p.within, p.same_length));
+  upper_bound = omega (arith, length-append a b, p.upper_bound, q.upper_bound);
+  within = q.within;
+  same_length = q.same_length ∙ p.same_length;
+  same_reference = q.same_reference ∙ p.same_reference;
+}
+
+pub wrote_at_most : {m k : ℕ} {a : List ℕ} {t u : Text} → Wrote m a t u → length a ≤ k → Wrote k a t u
+wrote_at_most p h = record { written = p.written; upper_bound = h; within = p.within; same_length = p.same_length; same_reference = p.same_reference }

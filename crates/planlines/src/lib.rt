@@ -1,122 +1,101 @@
 // The lines of an answer, written into a lent buffer: what the rehearsal of a plan says, or which line is no part of a plan.
-#![tactic(auto)]
+#![tactic(auto, using(digits::proofs::Texts::wrote_then, digits::proofs::Digits::decimal_8, digits::proofs::Digits::decimal_16))]
 
 ghost use Rattle.std.specs.Prelude.{◌+◌, ◌*◌, ◌≤◌, length};
 ghost use Rattle.digits.specs.Written.{Written};
+ghost use Rattle.digits.specs.Text.{HasRoom, Wrote};
 ghost use Rattle.rehearsal.specs.Plan.{panels_of};
 ghost use Rattle.planlines.specs.Lines.{ending_word, reason_word, step_text, way, last_text, outcome_text, answer_text, rehearsal_text, fault_text};
 
+use digits::Text;
 use rehearsal::Rehearsed;
 
-// Bytes in a row.
-fn put_bytes(out: &mut [u8], at: usize, bytes: &[u8]) -> usize
-    requires { at + length bytes.now ≤ length out.old }
-    ensures { Written bytes.now at out.old out.new result }
+// Stays: numbers for endings; `Rehearsed` is lent to C, and its ending is a byte there.
+#[tactic(auto, using(digits::proofs::Texts::wrote_at_most), unfolding(digits::specs::Digits::characters_of))]
+fn write_ending(text: &mut Text, ending: u8)
+    requires { HasRoom 5 text.old }
+    ensures { Wrote 5 (ending_word ending) text.old text.new }
 {
-    let mut i: usize = 0;
-    while i < bytes.len() {
-        out[at + i] = bytes[i];
-        i += 1;
+    match ending {
+        1 => text.put_bytes(b"rings"),
+        2 => text.put_bytes(b"busy"),
+        _ => text.put_bytes(b"limit"),
     }
-    at + i
 }
 
-fn write_ending(out: &mut [u8], at: usize, ending: u8) -> usize
-    requires { at + 5 ≤ length out.old }
-    ensures written { Written (ending_word ending) at out.old out.new result }
-    ensures upper_bound { result ≤ at + 5 }
+#[tactic(auto, using(digits::proofs::Texts::wrote_at_most), unfolding(digits::specs::Digits::characters_of))]
+fn write_reason(text: &mut Text, reason: u8)
+    requires { HasRoom 4 text.old }
+    ensures { Wrote 4 (reason_word reason) text.old text.new }
 {
-    if ending == 1 {
-        return put_bytes(out, at, b"rings");
+    match reason {
+        1 => text.put_bytes(b"cfu"),
+        2 => text.put_bytes(b"cfb"),
+        _ => text.put_bytes(b"cfnr"),
     }
-    if ending == 2 {
-        return put_bytes(out, at, b"busy");
-    }
-    put_bytes(out, at, b"limit")
-}
-
-fn write_reason(out: &mut [u8], at: usize, reason: u8) -> usize
-    requires { at + 4 ≤ length out.old }
-    ensures written { Written (reason_word reason) at out.old out.new result }
-    ensures upper_bound { result ≤ at + 4 }
-{
-    if reason == 1 {
-        return put_bytes(out, at, b"cfu");
-    }
-    if reason == 2 {
-        return put_bytes(out, at, b"cfb");
-    }
-    put_bytes(out, at, b"cfnr")
 }
 
 // A panel that forwards the call, with its reason.
-fn write_step(out: &mut [u8], at: usize, panel: u16, reason: u8) -> usize
-    requires { at + 20 ≤ length out.old }
-    ensures written { Written (step_text panel reason) at out.old out.new result }
-    ensures upper_bound { result ≤ at + 11 }
+fn write_step(text: &mut Text, panel: u16, reason: u8)
+    requires { HasRoom 20 text.old }
+    ensures { Wrote 11 (step_text panel reason) text.old text.new }
 {
-    let behind_panel = digits::write_decimal(out, at, panel as u64);
-    let before_reason = digits::put(out, behind_panel, 32);
-    let behind_reason = write_reason(out, before_reason, reason);
-    digits::put(out, behind_reason, 32)
+    text.decimal(panel as u64);
+    text.put(b' ');
+    write_reason(text, reason);
+    text.put(b' ');
 }
 
 // The way: each panel that forwarded the call, then the last.
-fn write_way(out: &mut [u8], at: usize, plan: &[u16], start: u16, forwards: u8) -> usize
-    requires { at + forwards * 11 + 20 ≤ length out.old }
-    ensures written { Written (way (panels_of plan.now) start forwards) at out.old out.new result }
-    ensures upper_bound { result ≤ at + forwards * 11 + 5 }
+fn write_way(text: &mut Text, plan: &[u16], start: u16, forwards: u8)
+    requires { HasRoom (forwards * 11 + 20) text.old }
+    ensures { Wrote (forwards * 11 + 5) (way (panels_of plan.now) start forwards) text.old text.new }
 {
-    let mut next = at;
     let mut panel = start;
-    let mut left = forwards;
-    while left > 0 {
+    for _ in 0..forwards {
         let p = panels::panel_at(plan, panel);
-        let reason = panels::reason_of(p);
-        next = write_step(out, next, panel, reason);
+        write_step(text, panel, panels::reason_of(p));
         panel = panels::forwards_to(p);
-        left -= 1;
     }
-    digits::write_decimal(out, next, panel as u64)
+    text.decimal(panel as u64);
 }
 
 // Number and last panel.
-fn write_last(out: &mut [u8], at: usize, code: u8, last: u16) -> usize
-    requires { at + 24 ≤ length out.old }
-    ensures written { Written (last_text code last) at out.old out.new result }
-    ensures upper_bound { result ≤ at + 10 }
+fn write_last(text: &mut Text, code: u8, last: u16)
+    requires { HasRoom 24 text.old }
+    ensures { Wrote 10 (last_text code last) text.old text.new }
 {
-    let behind_code = digits::write_decimal(out, at, code as u64);
-    let before_last = digits::put(out, behind_code, 32);
-    let behind_last = digits::write_decimal(out, before_last, last as u64);
-    digits::put(out, behind_last, 32)
+    text.decimal(code as u64);
+    text.put(b' ');
+    text.decimal(last as u64);
+    text.put(b' ');
 }
 
 // The first line: number, last panel, ending and counter.
-fn write_outcome(out: &mut [u8], at: usize, code: u8, last: u16, ending: u8, counter: u8) -> usize
-    requires { at + 36 ≤ length out.old }
-    ensures written { Written (outcome_text code last ending counter) at out.old out.new result }
-    ensures upper_bound { result ≤ at + 20 }
+fn write_outcome(text: &mut Text, code: u8, last: u16, ending: u8, counter: u8)
+    requires { HasRoom 36 text.old }
+    ensures { Wrote 20 (outcome_text code last ending counter) text.old text.new }
 {
-    let behind_last = write_last(out, at, code, last);
-    let behind_ending = write_ending(out, behind_last, ending);
-    let before_counter = digits::put(out, behind_ending, 32);
-    let behind_counter = digits::write_decimal(out, before_counter, counter as u64);
-    digits::put(out, behind_counter, 10)
+    write_last(text, code, last);
+    write_ending(text, ending);
+    text.put(b' ');
+    text.decimal(counter as u64);
+    text.put(b'\n');
 }
 
 // The answer: 2,831 bytes at most, with a counter of 255. It asks for room for 20 digits at each number.
-fn write_answer(out: &mut [u8], at: usize, plan: &[u16], start: u16, a: Rehearsed) -> usize
-    requires { at + 2845 ≤ length out.old }
-    ensures { Written (answer_text plan.now start a) at out.old out.new result }
+fn write_answer(text: &mut Text, plan: &[u16], start: u16, a: Rehearsed)
+    requires { HasRoom 2845 text.old }
+    ensures { Wrote 2831 (answer_text plan.now start a) text.old text.new }
 {
     if a.code == 0 {
-        let behind_outcome = write_outcome(out, at, a.code, a.last, a.ending, a.counter);
-        let behind_way = write_way(out, behind_outcome, plan, start, a.counter);
-        return digits::put(out, behind_way, 10);
+        write_outcome(text, a.code, a.last, a.ending, a.counter);
+        write_way(text, plan, start, a.counter);
+        text.put(b'\n');
+    } else {
+        text.decimal(a.code as u64);
+        text.put_bytes(b" - - -\n");
     }
-    let behind_code = digits::write_decimal(out, at, a.code as u64);
-    put_bytes(out, behind_code, b" - - -\n")
 }
 
 // What the rehearsal of a plan says.
@@ -125,7 +104,9 @@ pub fn write_rehearsal(out: &mut [u8], at: usize, plan: &[u16], start: u16) -> u
     ensures { Written (rehearsal_text plan.now start) at out.old out.new result }
 {
     let a = offers::rehearse(plan, start);
-    write_answer(out, at, plan, start, a)
+    let mut text = Text { out, at };
+    write_answer(&mut text, plan, start, a);
+    text.at
 }
 
 // What is told of a text that is no plan.
@@ -133,7 +114,9 @@ pub fn write_fault(out: &mut [u8], at: usize, line: usize) -> usize
     requires { at + 57 ≤ length out.old }
     ensures { Written (fault_text line) at out.old out.new result }
 {
-    let before_line = put_bytes(out, at, b"rehearse: line ");
-    let behind_line = digits::write_decimal(out, before_line, line as u64);
-    put_bytes(out, behind_line, b" is no part of a plan\n")
+    let mut text = Text { out, at };
+    text.put_bytes(b"rehearse: line ");
+    text.decimal(line as u64);
+    text.put_bytes(b" is no part of a plan\n");
+    text.at
 }

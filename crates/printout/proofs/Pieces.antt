@@ -13,42 +13,25 @@ use Rattle.notice.specs.Notice.{no_notice, no_number}
 use Rattle.call.specs.Messages.{no_identifier, no_counter}
 use Rattle.station.specs.declared.Answer.{Answer}
 use Rattle.station.specs.Station.{no_call}
+use Rattle.digits.specs.declared.Text.{Text}
 use Rattle.digits.specs.Digits.{decimal, space, newline}
-use Rattle.digits.specs.Written.{Written}
-use Rattle.digits.proofs.Texts.{and_then, in_three, unwritten}
+use Rattle.digits.specs.Text.{Wrote}
+use Rattle.digits.proofs.Texts.{wrote_then, wrote_at_most}
 use Rattle.digits.proofs.Digits.{decimal_within}
 use Rattle.printout.specs.Line.{leg_text, dash, column, letter_with_leg, messages, line}
 
-pub column_within : (k none n : ℕ) → n < 10 ^ suc k → length (space ++ column none n) ≤ suc (suc k)
+column_within : (k none n : ℕ) → n < 10 ^ suc k → length (space ++ column none n) ≤ suc (suc k)
 column_within k none n h = by_cases (eqb n none) (λ t. rw t (omega arith)) (λ f. rw f (omega (arith, decimal_within k n h)))
 
-module _ (at : ℕ) (old mid new : List ℕ) (next r : ℕ) (room : at + 21 ≤ length old) where
-  module _ (none n : ℕ) where
-    pub column_none : n ≡ none → Written space at old mid next → Written dash next mid new r → Written (space ++ column none n) at old new r
-    column_none e p q = rw (eq-eqb n none e) (and_then p q (omega (arith, p.next)))
+module _ (none n : ℕ) where
+  pub column_8 : n < 256 → length (space ++ column none n) ≤ 4
+  column_8 h = column_within 2 none n (omega arith)
 
-    pub column_some : (n ≡ none → ⊥) → Written space at old mid next → Written (decimal n) next mid new r → Written (space ++ column none n) at old new r
-    column_some e p q = rw (ne_eqb n none e) (and_then p q (omega (arith, p.next)))
+  pub column_16 : n < 65536 → length (space ++ column none n) ≤ 6
+  column_16 h = column_within 4 none n (omega arith)
 
-  module _ (letter leg : ℕ) where
-    pub lettered : (letter ≡ 0 → ⊥) → Written (letter ∷ []) at old mid next → Written (leg_text leg) next mid new r
-        → Written (when eqb letter 0 then [] else letter ∷ leg_text leg) at old new r
-    lettered e p q = rw (ne_eqb letter 0 e) (and_then p q (omega (arith, p.next)))
-
-pub legged : (at leg : ℕ) (old new : List ℕ) (r : ℕ) → (leg ≡ 0 → ⊥) → Written (decimal leg) at old new r → Written (leg_text leg) at old new r
-legged at leg old new r e w = rw (ne_eqb leg 0 e) w
-
-pub unlettered : (at letter : ℕ) (more old : List ℕ) → letter ≡ 0 → Written (when eqb letter 0 then [] else more) at old old at
-unlettered at letter more old e = rw (eq-eqb letter 0 e) (unwritten at old)
-
-module _ (at : ℕ) (old new : List ℕ) (r : ℕ) (sent : Sent) where
-  pub messages_none : sent.first.letter ≡ 0 → Written dash at old new r → Written (messages sent) at old new r
-  messages_none e w = rw (eq-eqb sent.first.letter 0 e) w
-
-  pub messages_some : (mid behind : List ℕ) (s t : ℕ) → (sent.first.letter ≡ 0 → ⊥)
-      → Written (letter_with_leg sent.first) at old mid s → Written (letter_with_leg sent.second) s mid behind t
-      → Written (letter_with_leg sent.third) t behind new r → t ≤ length old → Written (messages sent) at old new r
-  messages_some mid behind s t e x y z h = rw (ne_eqb sent.first.letter 0 e) (rw (ne_eqb sent.first.letter 0 e) at (in_three x y z h))
+  pub column_32 : n < 2 ^ 32 → length (space ++ column none n) ≤ 11
+  column_32 h = column_within 9 none n (omega arith)
 
 -- a line in its three parts
 regrouped : (p b c x y z i k m e : List ℕ)

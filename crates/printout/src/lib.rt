@@ -1,105 +1,103 @@
 // The panel printout: the text of a line, written into a lent buffer.
-#![tactic(auto)]
+#![tactic(auto, using(digits::proofs::Texts::wrote_then))]
 
 ghost use Rattle.std.specs.Prelude.{[], ◌∷◌, ◌++◌, ◌+◌, ◌≤◌, length, eqb};
 ghost use Rattle.ground.specs.Choice.{when◌then◌else◌};
 ghost use Rattle.digits.specs.Digits.{decimal, space, newline};
 ghost use Rattle.digits.specs.Written.{Written};
+ghost use Rattle.digits.specs.Text.{HasRoom, Wrote};
 ghost use Rattle.printout.specs.Line.{column, leg_text, messages, line, cut_line};
 ghost use Rattle.notice.specs.Notice.{no_notice, no_number};
 ghost use Rattle.call.specs.Messages.{no_identifier, no_counter, no_letter};
 ghost use Rattle.station.specs.Station.{no_call};
 
 use call::Sent;
+use digits::Text;
 use station::Answer;
 
 // A column with the space before it: its value, or a dash for none.
-fn write_column(out: &mut [u8], at: usize, none: u64, n: u64) -> usize
-    requires { at + 21 ≤ length out.old }
-    ensures { Written (space ++ column none n) at out.old out.new result }
+fn write_column(text: &mut Text, none: u64, n: u64)
+    requires { HasRoom 21 text.old }
+    ensures { Wrote 21 (space ++ column none n) text.old text.new }
 {
-    let next = digits::put(out, at, 32);
+    text.put(b' ');
     if n == none {
-        return digits::put(out, next, 45);
+        text.put(b'-');
+    } else {
+        text.decimal(n);
     }
-    digits::write_decimal(out, next, n)
 }
 
 // Position and answer number.
-fn write_start(out: &mut [u8], at: usize, position: u64, code: u8) -> usize
-    requires { at + 41 ≤ length out.old }
-    ensures written { Written (decimal position ++ space ++ decimal code) at out.old out.new result }
-    ensures upper_bound { result ≤ at + 24 }
+fn write_start(text: &mut Text, position: u64, code: u8)
+    requires { HasRoom 41 text.old }
+    ensures { Wrote 24 (decimal position ++ space ++ decimal code) text.old text.new }
 {
-    let behind = digits::write_decimal(out, at, position);
-    let next = digits::put(out, behind, 32);
-    digits::write_decimal(out, next, code as u64)
+    text.decimal(position);
+    text.put(b' ');
+    text.decimal(code as u64);
 }
 
 // Call, notice and number.
-fn write_shown(out: &mut [u8], at: usize, call: u8, notice: u8, number: u16) -> usize
-    requires { at + 29 ≤ length out.old }
-    ensures written { Written (space ++ column no_call call ++ (space ++ column no_notice notice) ++ (space ++ column no_number number)) at out.old out.new result }
-    ensures upper_bound { result ≤ at + 14 }
+#[tactic(auto, using(crate::proofs::Pieces::column_8, crate::proofs::Pieces::column_16))]
+fn write_shown(text: &mut Text, call: u8, notice: u8, number: u16)
+    requires { HasRoom 29 text.old }
+    ensures { Wrote 14 (space ++ column no_call call ++ (space ++ column no_notice notice) ++ (space ++ column no_number number)) text.old text.new }
 {
-    let behind_call = write_column(out, at, 255, call as u64);
-    let behind_notice = write_column(out, behind_call, 255, notice as u64);
-    write_column(out, behind_notice, 0, number as u64)
+    write_column(text, 255, call as u64);
+    write_column(text, 255, notice as u64);
+    write_column(text, 0, number as u64);
 }
 
 // A leg; 0 is none.
-fn write_leg(out: &mut [u8], at: usize, leg: u8) -> usize
-    requires { at + 20 ≤ length out.old }
-    ensures written { Written (leg_text leg) at out.old out.new result }
-    ensures upper_bound { result ≤ at + 3 }
+fn write_leg(text: &mut Text, leg: u8)
+    requires { HasRoom 20 text.old }
+    ensures { Wrote 3 (leg_text leg) text.old text.new }
 {
-    if leg == 0 {
-        return at;
+    if leg != 0 {
+        text.decimal(leg as u64);
     }
-    digits::write_decimal(out, at, leg as u64)
 }
 
 // A message's letter with its leg; a letter of 0 is no message.
-fn write_message(out: &mut [u8], at: usize, letter: u8, leg: u8) -> usize
-    requires { at + 21 ≤ length out.old }
-    ensures written { Written (when eqb letter no_letter then [] else letter ∷ leg_text leg) at out.old out.new result }
-    ensures upper_bound { result ≤ at + 4 }
+fn write_message(text: &mut Text, letter: u8, leg: u8)
+    requires { HasRoom 21 text.old }
+    ensures { Wrote 4 (when eqb letter no_letter then [] else letter ∷ leg_text leg) text.old text.new }
 {
-    if letter == 0 {
-        return at;
+    if letter != 0 {
+        text.put(letter);
+        write_leg(text, leg);
     }
-    let next = digits::put(out, at, letter);
-    write_leg(out, next, leg)
 }
 
 // The messages, or a dash for none.
-fn write_messages(out: &mut [u8], at: usize, sent: Sent) -> usize
-    requires { at + 29 ≤ length out.old }
-    ensures written { Written (messages sent) at out.old out.new result }
-    ensures upper_bound { result ≤ at + 12 }
+fn write_messages(text: &mut Text, sent: Sent)
+    requires { HasRoom 29 text.old }
+    ensures { Wrote 12 (messages sent) text.old text.new }
 {
     let a = sent.first;
     let b = sent.second;
     let c = sent.third;
     if a.letter == 0 {
-        return digits::put(out, at, 45);
+        text.put(b'-');
+    } else {
+        write_message(text, a.letter, a.leg);
+        write_message(text, b.letter, b.leg);
+        write_message(text, c.letter, c.leg);
     }
-    let behind_a = write_message(out, at, a.letter, a.leg);
-    let behind_b = write_message(out, behind_a, b.letter, b.leg);
-    write_message(out, behind_b, c.letter, c.leg)
 }
 
 // Identifier, counter and messages, to the end of the line.
-fn write_end(out: &mut [u8], at: usize, identifier: u32, counter: u8, sent: Sent) -> usize
-    requires { at + 45 ≤ length out.old }
-    ensures written { Written (space ++ column no_identifier identifier ++ (space ++ column no_counter counter) ++ space ++ messages sent ++ newline) at out.old out.new result }
-    ensures upper_bound { result ≤ at + 29 }
+#[tactic(auto, using(crate::proofs::Pieces::column_8, crate::proofs::Pieces::column_32))]
+fn write_end(text: &mut Text, identifier: u32, counter: u8, sent: Sent)
+    requires { HasRoom 45 text.old }
+    ensures { Wrote 29 (space ++ column no_identifier identifier ++ (space ++ column no_counter counter) ++ space ++ messages sent ++ newline) text.old text.new }
 {
-    let behind_identifier = write_column(out, at, 65536, identifier as u64);
-    let behind_counter = write_column(out, behind_identifier, 0, counter as u64);
-    let next = digits::put(out, behind_counter, 32);
-    let behind_messages = write_messages(out, next, sent);
-    digits::put(out, behind_messages, 10)
+    write_column(text, 65536, identifier as u64);
+    write_column(text, 0, counter as u64);
+    text.put(b' ');
+    write_messages(text, sent);
+    text.put(b'\n');
 }
 
 // The line of an answer at its position: 67 bytes at most. It asks for room for 20 digits at each number.
@@ -109,9 +107,11 @@ pub fn write_line(out: &mut [u8], at: usize, position: u64, a: Answer) -> usize
     ensures upper_bound { result ≤ at + 67 }
 {
     let sent = a.sent;
-    let behind_start = write_start(out, at, position, a.code);
-    let behind_shown = write_shown(out, behind_start, a.call, a.notice, a.number);
-    write_end(out, behind_shown, a.identifier, a.counter, sent)
+    let mut text = Text { out, at };
+    write_start(&mut text, position, a.code);
+    write_shown(&mut text, a.call, a.notice, a.number);
+    write_end(&mut text, a.identifier, a.counter, sent);
+    text.at
 }
 
 // The line of a cut last record.
@@ -119,10 +119,9 @@ pub fn write_cut(out: &mut [u8], at: usize, count: usize) -> usize
     requires { at + 25 ≤ length out.old }
     ensures { Written (cut_line count) at out.old out.new result }
 {
-    out[at] = 99;
-    out[at + 1] = 117;
-    out[at + 2] = 116;
-    out[at + 3] = 32;
-    let behind = digits::write_decimal(out, at + 4, count as u64);
-    digits::put(out, behind, 10)
+    let mut text = Text { out, at };
+    text.put_bytes(b"cut ");
+    text.decimal(count as u64);
+    text.put(b'\n');
+    text.at
 }

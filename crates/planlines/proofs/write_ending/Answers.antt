@@ -1,11 +1,13 @@
-use Rattle.planlines.proofs.Words.{word_rings, word_busy, word_limit}
+use Rattle.std.proofs.Common.{arith, length}
+use borrow.Author.Tests.{ne_eqb}
+use Rattle.digits.proofs.Texts.{wrote_at_most}
+use Rattle.digits.specs.Digits.{characters_of}
 use Rattle.planlines.proofs.write_ending.Goals as goal
 
-pub returns-then-ending-eq1-clause-written : goal.returns-then-ending-eq1-clause-written
-returns-then-ending-eq1-clause-written c = (word_rings c.args.at c.args.out.now _ _ c.args.ending c.if-ending-eq1.true c.put_bytes.ensures).0
+pub returns-in-2 : goal.returns-in-2
+unfolding characters_of
+returns-in-2 c = rw c.in-2.is (wrote_at_most c.put_bytes-in-2.ensures (omega arith))
 
-pub returns-then-ending-eq2-clause-written : goal.returns-then-ending-eq2-clause-written
-returns-then-ending-eq2-clause-written c = (word_busy c.args.at c.args.out.now _ _ c.args.ending c.if-ending-eq1.false c.if-ending-eq2.true c.put_bytes-then-ending-eq2.ensures).0
-
-pub returns-clause-written : goal.returns-clause-written
-returns-clause-written c = (word_limit c.args.at c.args.out.now _ _ c.args.ending c.if-ending-eq1.false c.if-ending-eq2.false c.put_bytes-2.ensures).0
+pub returns-in_default : goal.returns-in_default
+unfolding characters_of
+returns-in_default c = rw (ne_eqb c.args.ending 1 (λ e. omega arith), ne_eqb c.args.ending 2 (λ e. omega arith)) c.put_bytes-in_default.ensures

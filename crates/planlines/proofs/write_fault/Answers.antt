@@ -1,13 +1,12 @@
-use Rattle.std.proofs.Common.{arith}
-use Rattle.digits.proofs.Digits.{decimal_within}
-use Rattle.planlines.proofs.Words.{fault_written}
+use Rattle.std.proofs.Common.{rules}
+use Rattle.digits.specs.Digits.{characters_of}
+use Rattle.digits.specs.Text.{Wrote}
+use Rattle.digits.proofs.Texts.{wrote_then}
+use Rattle.planlines.specs.Lines.{fault_text}
 use Rattle.planlines.proofs.write_fault.Goals as goal
 
-pub put_bytes-requires : goal.put_bytes-requires
-put_bytes-requires c = omega (arith, c.put_bytes-before_line.ensures.next, c.write_decimal-behind_line.ensures.next, decimal_within 19 c.args.line (omega arith))
-
 pub returns : goal.returns
+unfolding characters_of
 returns c =
-    let a = c.args in
-    fault_written a.at a.line a.out.now _ _ _ _ _ _ (omega (arith, c.put_bytes-before_line.ensures.next, c.write_decimal-behind_line.ensures.next, decimal_within 19 c.args.line (omega arith)))
-    c.put_bytes-before_line.ensures c.write_decimal-behind_line.ensures c.put_bytes.ensures
+    let w : Wrote 57 (fault_text c.args.line) _ _ = wrote_then (wrote_then c.put_bytes.ensures c.decimal.ensures) c.put_bytes-2.ensures in
+    search rules

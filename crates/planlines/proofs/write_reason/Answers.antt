@@ -1,11 +1,17 @@
-use Rattle.planlines.proofs.Words.{word_cfu, word_cfb, word_cfnr}
+use Rattle.std.proofs.Common.{arith, length}
+use borrow.Author.Tests.{ne_eqb}
+use Rattle.digits.proofs.Texts.{wrote_at_most}
+use Rattle.digits.specs.Digits.{characters_of}
 use Rattle.planlines.proofs.write_reason.Goals as goal
 
-pub returns-then-reason-eq1-clause-written : goal.returns-then-reason-eq1-clause-written
-returns-then-reason-eq1-clause-written c = (word_cfu c.args.at c.args.out.now _ _ c.args.reason c.if-reason-eq1.true c.put_bytes.ensures).0
+pub returns-in-1 : goal.returns-in-1
+unfolding characters_of
+returns-in-1 c = rw c.in-1.is (wrote_at_most c.put_bytes.ensures (omega arith))
 
-pub returns-then-reason-eq2-clause-written : goal.returns-then-reason-eq2-clause-written
-returns-then-reason-eq2-clause-written c = (word_cfb c.args.at c.args.out.now _ _ c.args.reason c.if-reason-eq1.false c.if-reason-eq2.true c.put_bytes-then-reason-eq2.ensures).0
+pub returns-in-2 : goal.returns-in-2
+unfolding characters_of
+returns-in-2 c = rw c.in-2.is (wrote_at_most c.put_bytes-in-2.ensures (omega arith))
 
-pub returns-clause-written : goal.returns-clause-written
-returns-clause-written c = (word_cfnr c.args.at c.args.out.now _ _ c.args.reason c.if-reason-eq1.false c.if-reason-eq2.false c.put_bytes-2.ensures).0
+pub returns-in_default : goal.returns-in_default
+unfolding characters_of
+returns-in_default c = rw (ne_eqb c.args.reason 1 (λ e. omega arith), ne_eqb c.args.reason 2 (λ e. omega arith)) c.put_bytes-in_default.ensures

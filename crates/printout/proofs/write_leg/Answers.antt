@@ -1,10 +1,8 @@
 use Rattle.std.proofs.Common.{arith}
+use Rattle.std.proofs.lemmas.Grind.{common_steps}
 use Rattle.digits.proofs.Digits.{decimal_within}
-use Rattle.printout.proofs.Pieces.{legged, unlettered}
+use Rattle.digits.proofs.Texts.{wrote_at_most}
 use Rattle.printout.proofs.write_leg.Goals as goal
 
-pub returns-then-leg-eq0 : goal.returns-then-leg-eq0
-returns-then-leg-eq0 c = record { written = search unlettered; upper_bound = omega arith }
-
-pub returns : goal.returns
-returns c = record { written = search legged; upper_bound = omega (arith, decimal_within 2 c.args.leg (omega arith)) }
+pub returns-then-leg-ne0 : goal.returns-then-leg-ne0
+returns-then-leg-ne0 c = let w = wrote_at_most c.decimal.ensures (decimal_within 2 c.args.leg (omega arith)) in grind (arith, common_steps)

@@ -1,12 +1,8 @@
-use Rattle.std.proofs.Common.{arith}
-use Rattle.digits.proofs.Texts.{in_three}
+use Rattle.std.proofs.Common.{rules}
+use Rattle.digits.proofs.Texts.{wrote_then}
 use Rattle.printout.proofs.Pieces.{line_parts}
 use Rattle.printout.proofs.write_line.Goals as goal
 
-pub returns : goal.returns
-returns c =
-    let a = c.args in
-    record {
-      written = rw (← line_parts a.position a.a) (in_three c.write_start-behind_start.ensures.written c.write_shown-behind_shown.ensures.written c.write_end.ensures.written (omega arith));
-      upper_bound = omega arith;
-    }
+pub returns-clause-written : goal.returns-clause-written
+returns-clause-written c =
+    let w = rw (line_parts c.args.position c.args.a) at (wrote_then (wrote_then c.write_start.ensures c.write_shown.ensures) c.write_end.ensures) in search rules

@@ -1,11 +1,8 @@
-use Rattle.std.proofs.Common.{arith, length, ◌≤◌}
-use Rattle.printout.proofs.Pieces.{messages_none, messages_some}
+use borrow.Author.Tests.{ne_eqb}
+use Rattle.digits.proofs.Texts.{wrote_then}
 use Rattle.printout.proofs.write_messages.Goals as goal
 
-pub returns-then-a-eq0 : goal.returns-then-a-eq0
-returns-then-a-eq0 c = record { written = search messages_none; upper_bound = omega arith }
-
-pub returns : goal.returns
-returns c =
-    let room : c.write_message-behind_b.result ≤ length c.args.out.now = omega arith in
-    record { written = search messages_some; upper_bound = omega arith }
+pub returns-else-a-eq0 : goal.returns-else-a-eq0
+returns-else-a-eq0 c =
+    let e = ne_eqb c.args.sent.first.letter 0 c.if-a-eq0.false in
+    rw e (rw e at (wrote_then (wrote_then c.write_message.ensures c.write_message-else-a-eq0.ensures) c.write_message-else-a-eq0-2.ensures))
