@@ -27,6 +27,7 @@ fn codes_word(e: Event) -> u32
     u32::from_le_bytes([e.reason, e.option, e.counter, e.flag])
 }
 
+// Stays: the sums of two fields of 16 bits, since no conversion of the library's makes one number of two; by way of four bytes it is no plainer.
 fn first_word(e: Event) -> u32
     ensures { result ≡ first_word e }
 {

@@ -6,6 +6,7 @@ ghost use Rattle.event.specs.WellMade.{open_fields, open_diverted_fields, call_o
 
 use event::Event;
 
+// Stays: a row's fields one by one, here and below, as in the page's table; a comparison with an event of zeros would serve few of the rows.
 fn open_fields(e: Event) -> bool
     ensures { result ≡ open_fields e }
 {
@@ -166,6 +167,7 @@ fn message_fields(e: Event) -> bool
 
 // The kind is one of the table, and each field is as its row says. Only the row of the event's kind is looked at; neighbours
 // have an arm each, since `1 | 2` would be compiled as a range, tested after all others.
+#[tactic(auto, unfolding(event::specs::WellMade::call_made))]
 fn call_made(kind: u8, e: Event) -> bool
     requires { kind ≡ e.kind }
     ensures { result ≡ call_made e }
@@ -188,6 +190,7 @@ fn call_made(kind: u8, e: Event) -> bool
 }
 
 // The kind is one of 1 to 31, and each field is as the page says.
+// Stays: the kind beside its event: the function is public, and its callers hand over both.
 #[tactic(auto, unfolding(event::specs::WellMade::well_made))]
 pub fn well_made(kind: u8, e: Event) -> bool
     requires { kind ≡ e.kind }
