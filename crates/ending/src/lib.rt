@@ -1,4 +1,5 @@
 // "11 own side ends the call": what goes out on its legs, of a call of either direction.
+// Stays: the codes of a record are numbers, as the C interface has them.
 #![tactic(auto)]
 
 ghost use Rattle.std.specs.Prelude.{◌≡◌};

@@ -1,4 +1,5 @@
 // "Rules for incoming calls": a call that is opened, alerted, answered; a divert is in `requests`.
+// Stays: the codes of a record are numbers, as the C interface has them.
 #![tactic(auto)]
 
 ghost use Rattle.std.specs.Prelude.{◌≡◌};

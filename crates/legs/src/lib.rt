@@ -1,4 +1,5 @@
 // "14: .." what a message on a leg of an outgoing call does.
+// Stays: the codes of a record, messages and legs are numbers, as the C interface has them.
 #![tactic(auto)]
 
 ghost use Rattle.std.specs.Prelude.{◌≡◌, ◌&&◌, not};

@@ -1,4 +1,5 @@
 // What goes out of a done event beside the record: the station after it, and its answer.
+// Stays: kinds are numbers, and an answer has a number for none, as the C interface has them.
 #![tactic(auto)]
 
 ghost use Rattle.std.specs.Prelude.{◌≡◌};

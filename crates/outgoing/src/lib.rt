@@ -1,4 +1,5 @@
 // "Rules for outgoing calls": a call that is opened and a DLI1 that is received; an invoke is in `rerouting`.
+// Stays: the codes of a record are numbers, as the C interface has them.
 #![tactic(auto)]
 
 ghost use Rattle.std.specs.Prelude.{◌≡◌};

@@ -26,6 +26,7 @@ pub struct Packed {
     pub counter: u8,
 }
 
+// Stays: sums and not from_le_bytes, since five of the eleven fields have two bytes, which would be taken apart first.
 fn head_word(m: Message) -> u64
     ensures { result ≡ head_word m }
 {

@@ -1,4 +1,5 @@
 // Whether a reason fits a call's basic state: what a sound record asks of its own, and numbers 10 and 11 of an event's.
+// Stays: reasons and basic states are numbers, as the C interface has them.
 #![tactic(auto)]
 
 ghost use Rattle.std.specs.Prelude.{◌≡◌};

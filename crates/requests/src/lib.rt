@@ -1,4 +1,5 @@
 // "Rules for incoming calls": the request of a divert, from the invoke to its end.
+// Stays: the codes of a record are numbers, as the C interface has them.
 #![tactic(auto)]
 
 ghost use Rattle.std.specs.Prelude.{◌≡◌, ◌<◌};

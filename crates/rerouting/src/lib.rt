@@ -1,10 +1,10 @@
 // "12: callRerouting invoke received": it is turned down, the call is redirected, forwarded, or forwarded on.
+// Stays: the codes of a record and reasons are numbers, as the C interface has them.
 #![tactic(auto)]
 
 ghost use Rattle.std.specs.Prelude.{◌≡◌, T};
 ghost use Rattle.waits.specs.Waits.{room};
 ghost use Rattle.call.specs.Messages.{echo_on, release_on, result_on, two, three};
-ghost use Rattle.call.specs.Record.{forwarded_party};
 ghost use Rattle.call.specs.Outgoing.{setup_on, goes_on, turns_down, turned_down, redirected, forwarded, forwarded_on, rerouted};
 
 use call::{Call, Effect, Message, Sent};
@@ -69,17 +69,16 @@ fn three(a: Message, b: Message, c: Message) -> Sent
     }
 }
 
-// "Else cfu or cfb: return result and RELEASE COMPLETE on leg 1, SETUP with DLI2 to the destination, now leg 1"
-fn redirected_sent(c: Call, e: Event) -> Sent
-    ensures { result ≡ three (result_on 1 e.identifier) (release_on 1) (setup_on 1 c.party e) }
+// "return result and RELEASE COMPLETE" on a leg, "SETUP with DLI2 to the destination", which is that leg then
+fn set_up_anew(leg: u8, diverting: u16, e: Event) -> Sent
+    ensures { result ≡ three (result_on leg e.identifier) (release_on leg) (setup_on leg diverting e) }
 {
-    let result = echo_on(b'R', 1, e.identifier);
-    let release = message::bare(b'X', 1);
-    let setup = setup_on(1, c.party, e);
-    three(result, release, setup)
+    let result = echo_on(b'R', leg, e.identifier);
+    let release = message::bare(b'X', leg);
+    three(result, release, setup_on(leg, diverting, e))
 }
 
-// "Else cfu or cfb: .. Proceeding; DLI1 (reason, option, destination) to the own CDO."
+// "Else cfu or cfb: .. SETUP with DLI2 to the destination, now leg 1, Proceeding; DLI1 (reason, option, destination) to the own CDO."
 fn redirected(c: Call, e: Event) -> Effect
     ensures { result ≡ redirected c e }
 {
@@ -93,7 +92,7 @@ fn redirected(c: Call, e: Event) -> Effect
         notice: noticed.notice,
         identifier: e.identifier as u32,
         counter: e.counter,
-        ..message::sending(d, redirected_sent(c, e))
+        ..message::sending(d, set_up_anew(1, c.party, e))
     }
 }
 
@@ -122,22 +121,12 @@ fn forwarded(c: Call, e: Event) -> Effect
     }
 }
 
-// "result and RELEASE COMPLETE on leg 2, SETUP with DLI2 .. to the new destination, now leg 2"
-fn forwarded_on_sent(c: Call, e: Event) -> Sent
-    ensures { result ≡ three (result_on 2 e.identifier) (release_on 2) (setup_on 2 (forwarded_party c) e) }
-{
-    let party = queue::last_number(c.waiting);
-    let result = echo_on(b'R', 2, e.identifier);
-    let release = message::bare(b'X', 2);
-    let setup = setup_on(2, party, e);
-    three(result, release, setup)
-}
-
-// "Each waiting DLI1 is kept": one more waits.
+// "result and RELEASE COMPLETE on leg 2, SETUP with DLI2 .. to the new destination, now leg 2"; "Each waiting DLI1 is kept": one more waits.
 fn forwarded_on(c: Call, e: Event) -> Effect
     requires { T (room c.waiting) }
     ensures { result ≡ forwarded_on c e }
 {
+    let party = queue::last_number(c.waiting);
     let d = Call {
         waiting: queue::waits_with(c.waiting, outgoing::dli1_of(e)),
         ..c
@@ -145,7 +134,7 @@ fn forwarded_on(c: Call, e: Event) -> Effect
     Effect {
         identifier: e.identifier as u32,
         counter: e.counter,
-        ..message::sending(d, forwarded_on_sent(c, e))
+        ..message::sending(d, set_up_anew(2, party, e))
     }
 }
 
