@@ -12,12 +12,8 @@ pub fn column(table: &[Call], n: usize) -> [u32; 64]
     ensures { result ≡ column_of n table.now }
 {
     let mut held = [0u32; 64];
-    let mut i = 0;
-    while i < n {
-        let c = table[i];
-        let id = draw::held_by(c);
-        held[i] = id;
-        i += 1;
+    for i in 0..n {
+        held[i] = draw::held_by(table[i]);
     }
     held
 }

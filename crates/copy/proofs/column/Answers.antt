@@ -7,10 +7,9 @@ use Rattle.copy.proofs.column.Goals as goal
 
 pub loop-i-preserved : goal.loop-i-preserved
 loop-i-preserved c =
-    record {
-      within = omega arith;
-      copied = rw (c.loop-i.invariant.copied, c.held_by-id.ensures, get_or_default c.args.table.now c.loop-i.i _ free_call (omega arith)) (column_next c.args.table.now c.loop-i.i (omega arith) (omega arith));
-    }
+    let l = c.args.table.now in
+    let i = c.loop-i.i in
+    rw (c.loop-i.invariant, c.held_by.ensures, get_or_default l i _ free_call (omega arith)) (column_next l i (omega arith) (omega arith))
 
 pub returns : goal.returns
-returns c = let e : c.loop-i.i ≡ c.args.n = omega arith in rw e at c.loop-i.invariant.copied
+returns c = let e : c.loop-i.i ≡ c.args.n = omega arith in rw e at c.loop-i.invariant
