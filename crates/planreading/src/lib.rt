@@ -169,7 +169,7 @@ pub fn read_piece(r: Reading, plan: &mut [u16], bytes: &[u8]) -> Reading
 }
 
 // The end of the text.
-#[tactic(auto, using(plantext::proofs::Bytes::one_byte, plantext::proofs::Bytes::one_byte_plan, plantext::proofs::Bytes::no_bytes, plantext::proofs::Bytes::no_bytes_plan))]
+#[tactic(auto, unfolding(plantext::specs::Text::text_read, plantext::specs::Text::plan_after))]
 pub fn finish(r: Reading, plan: &mut [u16]) -> Reading
     ensures value { result ≡ text_read r (closing r) }
     ensures plan_after { plan.new ≡ plan_after r (closing r) plan.old }

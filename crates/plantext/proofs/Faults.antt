@@ -74,7 +74,7 @@ byte_view r byte e =
 
 -- behind a faulty line
 pub stays_faulty : (r : Reading) (rest : List ℕ) → text_read (at_fault r) rest ≡ at_fault r
-stays_faulty r rest = fault_stays (at_fault r) rest (λ q. none-some r.line (sym q))
+stays_faulty r rest = fault_stays (at_fault r) rest (λ q. none-some _ (sym q))
 
 -- a text with no fault is in the line behind its newlines
 lines_read : (text : List ℕ) (r : Reading) → r.fault ≡ None → r.line + length text < 18446744073709551616
@@ -85,7 +85,7 @@ lines_read (byte ∷ rest) r e b h =
     ⊎_elim
     (λ (q : byte_read r byte ≡ at_fault r).
     let faulty : text_read (byte_read r byte) rest ≡ at_fault r = rw q (stays_faulty r rest) in
-    absurd (none-some r.line (sym h ∙ ap (λ (x : Reading). x.fault) faulty)))
+    absurd (none-some _ (sym h ∙ ap (λ (x : Reading). x.fault) faulty)))
     (λ (q : ((byte_read r byte).fault ≡ None) × ((byte_read r byte).line ≡ when is_newline byte then onward r.line else r.line)).
     by_cases (is_newline byte)
     (λ n.

@@ -183,7 +183,7 @@ text_read_lem (byte ∷ rest) r done w h =
     ⊎_elim
     (λ (q : byte_read r byte ≡ at_fault r).
     let faulty : text_read (byte_read r byte) rest ≡ at_fault r = rw q (stays_faulty r rest) in
-    absurd (none-some r.line (sym h ∙ ap (λ (x : Reading). x.fault) faulty)))
+    absurd (none-some _ (sym h ∙ ap (λ (x : Reading). x.fault) faulty)))
     (λ (q : Read (byte_read r byte) (done ++ (byte ∷ []))). rw append_assoc at (text_read_lem rest (byte_read r byte) (done ++ (byte ∷ [])) q h))
     (byte_kept r done w byte)
 
@@ -206,7 +206,7 @@ unfolding byte_read
 closed r text w h =
     by_cases (whole_line r)
     (newline_ends r text w)
-    (λ f. absurd (none-some r.line (sym (rw (w.sound, f) at h))))
+    (λ f. absurd (none-some _ (sym (rw (w.sound, f) at h))))
 
 -- and where none is
 nothing_left : (r : Reading) (text : List ℕ) → Read r text → begun r || ltb 0 r.numbers || leb r.line 1 ≡ false → Lines text

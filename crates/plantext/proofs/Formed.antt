@@ -14,7 +14,6 @@ use Rattle.digits.specs.Digits.{digit, space, newline}
 use Rattle.plantext.specs.declared.Reading.{Reading}
 use Rattle.plantext.specs.Text.{beginning, begun, onward, numbers_before, byte_read, text_read, closing}
 use Rattle.plantext.specs.Form.{Digits, none, more, Number, Numbers, one, and, Lines, start, panel, whole, unended, ReadsAll}
-use Rattle.plantext.proofs.Bytes.{one_byte}
 use Rattle.plantext.proofs.Faults.{pieces_as_one}
 use Rattle.plantext.proofs.LastLine.{onward_up}
 use Rattle.plantext.proofs.Form.{some_numbers, none_before}
@@ -49,6 +48,11 @@ module _ (l k : ℕ) (r : Reading) where
 -- a text after another
 both_read : (r : Reading) (x y : List ℕ) → text_read r (x ++ y) ≡ text_read (text_read r x) y
 both_read r x y = (pieces_as_one r x y []).0
+
+-- one byte is a text
+one_byte : (r : Reading) (byte : ℕ) → text_read r (byte ∷ []) ≡ byte_read r byte
+unfolding text_read
+one_byte r byte = refl
 
 -- the value of some digits, once there is one
 abbrev value_of : ℕ → List ℕ → Option ℕ

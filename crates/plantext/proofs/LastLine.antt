@@ -66,7 +66,7 @@ module _ (r : Reading) (l : 1 ≤ r.line) where
       (λ t.
       ⊎_elim
       (λ (q : closing (byte_read r 10) ≡ []). rw q (refl, λ plan. refl))
-      (λ (q : byte_read r 10 ≡ at_fault r). rw q (stays_faulty r (closing (at_fault r)), λ plan. plan_stays (at_fault r) (closing (at_fault r)) plan (λ z. none-some r.line (sym z))))
+      (λ (q : byte_read r 10 ≡ at_fault r). rw q (stays_faulty r (closing (at_fault r)), λ plan. plan_stays (at_fault r) (closing (at_fault r)) plan (λ z. none-some _ (sym z))))
       (newline_closes r l t))
       (λ f. rw (byte_behind r 10 f) (fault_stays r (closing r) f, λ plan. plan_stays r (closing r) plan f))
 
