@@ -4,22 +4,24 @@ use mathlib.Core.Logic.{◌⊎◌, inl, inr, ⊎_elim}
 use mathlib.Core.List.{List, [], ◌∷◌}
 use mathlib.Core.Path.{◌≡◌, refl, sym}
 use native.Mathlib.Omega.{arith}
-use borrow.Author.Tests.{eq-eqb, ne_eqb, lt-leb, eqb-true, eqb-false, ltb-false}
-use lib.Dec.{eqb, ltb}
+use borrow.Author.Tests.{lt-leb, ltb-false}
+use lib.Dec.{ltb}
+use Rattle.std.specs.Prelude.{None}
+use Rattle.std.proofs.lemmas.Option.{none-some}
 use Rattle.ground.specs.Choice.{when◌then◌else◌}
 use Rattle.ground.proofs.Bools.{by_cases}
 use Rattle.digits.specs.Digits.{newline}
 use Rattle.plantext.specs.declared.Reading.{Reading}
 use Rattle.plantext.specs.Text.{beginning, onward, at_fault, is_newline, whole_line, byte_read, stored, text_read, plan_after, closing}
 use Rattle.plantext.specs.Statements.{LastNewline}
-use Rattle.plantext.proofs.Faults.{pieces_as_one, fault_stays, byte_behind, byte_view, stays_faulty}
+use Rattle.plantext.proofs.Faults.{by_fault, told, pieces_as_one, fault_stays, byte_behind, byte_view, stays_faulty}
 
 -- behind a fault the plan stays
-none_stored_behind : (r : Reading) (byte : ℕ) (plan : List ℕ) → (r.fault ≡ 0 → ⊥) → stored r byte plan ≡ plan
+none_stored_behind : (r : Reading) (byte : ℕ) (plan : List ℕ) → (r.fault ≡ None → ⊥) → stored r byte plan ≡ plan
 unfolding stored
-none_stored_behind r byte plan h = rw (ne_eqb r.fault 0 h)
+none_stored_behind r byte plan h = rw (told r.fault h)
 
-plan_stays : (r : Reading) (rest plan : List ℕ) → (r.fault ≡ 0 → ⊥) → plan_after r rest plan ≡ plan
+plan_stays : (r : Reading) (rest plan : List ℕ) → (r.fault ≡ None → ⊥) → plan_after r rest plan ≡ plan
 unfolding plan_after
 plan_stays r [] plan h = refl
 plan_stays r (byte ∷ rest) plan h = rw (byte_behind r byte h, none_stored_behind r byte plan h) (plan_stays r rest plan h)
@@ -31,14 +33,14 @@ onward_up line h =
 
 byte_line : (r : Reading) (byte : ℕ) → 1 ≤ r.line → 1 ≤ (byte_read r byte).line
 byte_line r byte h =
-    by_cases (eqb r.fault 0)
+    by_fault r.fault
     (λ t.
     ⊎_elim
     (λ (q : byte_read r byte ≡ at_fault r). rw q h)
-    (λ (q : ((byte_read r byte).fault ≡ 0) × ((byte_read r byte).line ≡ when is_newline byte then onward r.line else r.line)).
+    (λ (q : ((byte_read r byte).fault ≡ None) × ((byte_read r byte).line ≡ when is_newline byte then onward r.line else r.line)).
     rw q.1 (by_cases (is_newline byte) (λ n. rw n (omega (arith, onward_up r.line h))) (λ n. rw n h)))
-    (byte_view r byte (eqb-true r.fault 0 t)))
-    (λ f. rw (byte_behind r byte (eqb-false r.fault 0 f)) h)
+    (byte_view r byte t))
+    (λ f. rw (byte_behind r byte f) h)
 
 text_line : (text : List ℕ) (r : Reading) → 1 ≤ r.line → 1 ≤ (text_read r text).line
 unfolding text_read
@@ -46,10 +48,10 @@ text_line [] r h = h
 text_line (byte ∷ rest) r h = text_line rest (byte_read r byte) (byte_line r byte h)
 
 -- behind a newline nothing is left to close, or there is a fault
-newline_closes : (r : Reading) → 1 ≤ r.line → r.fault ≡ 0 → (closing (byte_read r 10) ≡ []) ⊎ (byte_read r 10 ≡ at_fault r)
+newline_closes : (r : Reading) → 1 ≤ r.line → r.fault ≡ None → (closing (byte_read r 10) ≡ []) ⊎ (byte_read r 10 ≡ at_fault r)
 unfolding byte_read
 newline_closes r l e =
-    rw (eq-eqb r.fault 0 e)
+    rw e
     (by_cases (whole_line r)
     (λ k. rw k (inl (rw (lt-leb (onward r.line) 1 (omega (arith, onward_up r.line l))))))
     (λ k. rw k (inr refl)))
@@ -60,15 +62,13 @@ module _ (r : Reading) (l : 1 ≤ r.line) where
       × ((plan : List ℕ) → plan_after (byte_read r 10) (closing (byte_read r 10)) plan ≡ plan)
   unfolding text_read plan_after
   ends_once =
-      by_cases (eqb r.fault 0)
+      by_fault r.fault
       (λ t.
       ⊎_elim
       (λ (q : closing (byte_read r 10) ≡ []). rw q (refl, λ plan. refl))
-      (λ (q : byte_read r 10 ≡ at_fault r). rw q (stays_faulty r l (closing (at_fault r)), λ plan. plan_stays (at_fault r) (closing (at_fault r)) plan (λ z. omega (arith, z))))
-      (newline_closes r l (eqb-true r.fault 0 t)))
-      (λ f.
-      let h = eqb-false r.fault 0 f in
-      rw (byte_behind r 10 h) (fault_stays r (closing r) h, λ plan. plan_stays r (closing r) plan h))
+      (λ (q : byte_read r 10 ≡ at_fault r). rw q (stays_faulty r (closing (at_fault r)), λ plan. plan_stays (at_fault r) (closing (at_fault r)) plan (λ z. none-some _ (sym z))))
+      (newline_closes r l t))
+      (λ f. rw (byte_behind r 10 f) (fault_stays r (closing r) f, λ plan. plan_stays r (closing r) plan f))
 
 pub last_newline : LastNewline
 unfolding text_read plan_after

@@ -1,4 +1,3 @@
-pub mod Bytes
 pub mod Faults
 pub mod ReadBack
 pub mod LastLine

@@ -1,6 +1,6 @@
 -- The form of a plan's text, said without the reader: such a text is read without a fault, and no other is. The theorems are in
 -- proofs/Form and proofs/Formed.
-use Rattle.std.specs.Prelude.{ℕ, ◌+◌, ◌*◌, ◌≤◌, ◌≡◌, List, [], ◌∷◌, ◌++◌, length}
+use Rattle.std.specs.Prelude.{ℕ, ◌+◌, ◌*◌, ◌≤◌, ◌≡◌, List, [], ◌∷◌, ◌++◌, None, length}
 use Rattle.digits.specs.Digits.{digit, space, newline}
 use Rattle.plantext.specs.Text.{whole_read}
 
@@ -32,8 +32,8 @@ pub data PlanForm : List ℕ → Type 0 where
 
 -- A text that is read without a fault is a plan's.
 abbrev pub ReadsOnly : Type 0
-ReadsOnly = (text : List ℕ) → (whole_read text).fault ≡ 0 → PlanForm text
+ReadsOnly = (text : List ℕ) → (whole_read text).fault ≡ None → PlanForm text
 
 -- And a text of this form is read without one.
 abbrev pub ReadsAll : Type 0
-ReadsAll = (text : List ℕ) → PlanForm text → (whole_read text).fault ≡ 0
+ReadsAll = (text : List ℕ) → PlanForm text → (whole_read text).fault ≡ None

@@ -1,5 +1,5 @@
 -- What reading a text promises. The theorems are in proofs/ReadBack, proofs/Faults, proofs/LastLine and proofs/TooLong.
-use Rattle.std.specs.Prelude.{ℕ, suc, ◌+◌, ◌*◌, ◌^◌, ◌≤◌, ◌<◌, ◌≡◌, Bool, ◌&&◌, List, [], ◌∷◌, ◌++◌, map, T, leb, length, take}
+use Rattle.std.specs.Prelude.{ℕ, suc, ◌+◌, ◌*◌, ◌^◌, ◌≤◌, ◌<◌, ◌≡◌, Bool, ◌&&◌, List, [], ◌∷◌, ◌++◌, Some, None, map, T, leb, length, take}
 use Rattle.ground.specs.Choice.{when◌then◌else◌}
 use Rattle.ground.specs.Lists.{all}
 use Rattle.digits.specs.Digits.{decimal, space, newline}
@@ -48,7 +48,7 @@ ReadsBack =
     → T (all row_fits rows)
     → length rows * 4 ≤ length buffer
     → length buffer < 2 ^ 64
-    → ((whole_read (plan_text start rows)).fault ≡ 0)
+    → ((whole_read (plan_text start rows)).fault ≡ None)
     × ((whole_read (plan_text start rows)).start ≡ start)
     × (panels_read (whole_read (plan_text start rows)) ≡ length rows)
     × (take (numbers_lent (whole_read (plan_text start rows)) (length buffer)) (whole_plan (plan_text start rows) buffer) ≡ numbers_of rows)
@@ -62,7 +62,7 @@ PiecesAsOne =
 
 -- Once a line is no part of a plan, it is that line that is told, whatever follows.
 abbrev pub FaultStays : Type 0
-FaultStays = (r : Reading) (rest : List ℕ) → (r.fault ≡ 0 → ⊥) → text_read r rest ≡ r
+FaultStays = (r : Reading) (rest : List ℕ) → (r.fault ≡ None → ⊥) → text_read r rest ≡ r
 
 -- the lines that are whole
 unfoldable pub newlines_in : List ℕ → ℕ
@@ -74,9 +74,9 @@ abbrev pub FaultNamesLine : Type 0
 FaultNamesLine =
     (text : List ℕ) (byte : ℕ)
     → length text + 1 < 2 ^ 64
-    → (text_read beginning text).fault ≡ 0
-    → ((text_read beginning (text ++ (byte ∷ []))).fault ≡ 0 → ⊥)
-    → (text_read beginning (text ++ (byte ∷ []))).fault ≡ newlines_in text + 1
+    → (text_read beginning text).fault ≡ None
+    → ((text_read beginning (text ++ (byte ∷ []))).fault ≡ None → ⊥)
+    → (text_read beginning (text ++ (byte ∷ []))).fault ≡ Some (newlines_in text + 1)
 
 -- The last newline may be missing.
 abbrev pub LastNewline : Type 0

@@ -36,12 +36,12 @@ fn tell_fault(rt: HostRuntime, line: usize) {
 // At the end of the text.
 fn conclude(rt: HostRuntime, r: Reading, plan: &mut [u16]) {
     let whole = planreading::finish(r, plan);
-    if whole.fault == 0 {
-        let n = planends::numbers_lent(whole, plan.len());
-        print_rehearsal(rt, &plan[..n], whole.start);
-    } else {
-        tell_fault(rt, whole.fault);
+    if let Some(line) = whole.fault {
+        tell_fault(rt, line);
+        return;
     }
+    let n = planends::numbers_lent(whole, plan.len());
+    print_rehearsal(rt, &plan[..n], whole.start);
 }
 
 fn main(rt: HostRuntime) {
