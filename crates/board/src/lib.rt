@@ -25,14 +25,10 @@ pub struct Board {
 pub fn start() -> Board
     ensures { result ≡ start_board }
 {
-    let made = fresh::fresh(15, 1, 1);
-    let station = made.station;
-    let free = blank::free_call();
-    let calls = [free; 64];
     Board {
-        station: station,
+        station: fresh::fresh(15, 1, 1).station,
         len: 64,
-        calls: calls,
+        calls: [blank::free_call(); 64],
     }
 }
 
@@ -40,13 +36,8 @@ pub fn start() -> Board
 pub fn sound_board(b: Board) -> bool
     ensures { result ≡ sound_board b }
 {
-    let len = b.len;
-    let calls = b.calls;
-    let s = b.station;
-    if bounds::in_bounds(len, s) {
-        return table::sound_table(calls, len, s.last, s.remote.pending);
-    }
-    false
+    bounds::in_bounds(b.len, b.station)
+        && table::sound_table(b.calls, b.len, b.station.last, b.station.remote.pending)
 }
 
 // Where an event acts; the column of due times is looked at for a clock event only.

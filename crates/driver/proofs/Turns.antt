@@ -49,7 +49,7 @@ module _ (b : Board) (d : Notes) (long : length b.calls ≡ 64) (w : Kept b d) (
   v = record { len = b.len; place = place; identifier = identifier; call = get_or b.calls i unread }
 
   pub reads : t ≡ Done → Reads b v
-  reads q = let k = turn_read b b.station b.calls d.free d.soon d.dues d.held e w.short (beside b d long w) late place i identifier at read drawn t r q in record { there = k.0; call = k.1 }
+  reads q = let k = turn_read b b.station b.calls d.free d.soon d.dues d.held e w.short (beside b d long w) late place i identifier at read drawn t r q in record { short = w.short; there = k.0; call = k.1 }
 
   pub doable : t ≡ Done → b.station.limit < 256 → Doable e v
   doable q l = turn_doable b b.station b.calls d.free d.soon d.dues d.held e w.short (beside b d long w) late place i identifier at read drawn t r q l

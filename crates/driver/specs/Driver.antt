@@ -1,5 +1,5 @@
 -- One event on the board that a driver stands for.
-use Rattle.std.specs.Prelude.{◌<◌, ◌≡◌, Result, Ok, Err, is_ok, eqb}
+use Rattle.std.specs.Prelude.{◌≤◌, ◌<◌, ◌≡◌, Result, Ok, Err, is_ok, eqb}
 use Rattle.event.specs.declared.Event.{Event}
 use Rattle.event.specs.declared.Refusal.{Refusal}
 use Rattle.event.specs.Refusals.{number_of}
@@ -26,7 +26,8 @@ pub record Drives (b : Board) (e : Event) (r : Result Answer Refusal) (after : B
   pub done : is_ok r ≡ eqb (outcome_on b e).answer.code 0
   pub board : after ≡ board_with b (outcome_on b e).station (outcome_on b e).calls
 
--- what was seen is a record of the board
+-- what was seen is a record of the board, which holds 64 at most
 pub record Reads (b : Board) (v : Seen) : Type 0 where
+  pub short : b.len ≤ 64
   pub there : v.place < b.len
   pub call : v.call ≡ at (table_of b) v.place

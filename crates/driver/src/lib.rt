@@ -58,18 +58,17 @@ impl Driver {
     pub fn play(&mut self, e: Event) -> Result<Answer, Refusal>
         ensures { Drives self.old e result self.new }
     {
-        let s = self.board.station;
         let place = board::place_on(e, self.notes.free, self.notes.soon, &self.notes.dues);
         let i = board::within(place, self.board.len);
         let c = self.board.calls[i];
-        let identifier = draw::identifier_in(e, &self.notes.held, s.remote.pending, s.next);
+        let identifier = draw::identifier_in(e, &self.notes.held, self.board.station.remote.pending, self.board.station.next);
         let seen = Seen {
             len: self.board.len,
             place: place,
             identifier: identifier,
             call: c,
         };
-        match turn::turned(s, e, seen)? {
+        match turn::turned(self.board.station, e, seen)? {
             DoneOn::Held => Ok(self.on_held(e, identifier)),
             DoneOn::Record => Ok(self.on_record(e, seen)),
         }
@@ -95,7 +94,6 @@ impl Driver {
         ensures answer { result ≡ answer_of seen.place (acted_of e seen) }
         ensures board { self.new ≡ record self.old { station = station_on self.old.station e seen.identifier; calls = set self.old.calls seen.place (acted_of e seen).call } }
     {
-        let s = self.board.station;
         let i = seen.place;
         let again = self.board.calls[i];
         let x = deed::acted(
@@ -112,7 +110,9 @@ impl Driver {
         self.notes.dues[i] = due;
         self.notes.soon = self.notes.soon.min(due);
         self.notes.held[i] = draw::held_by(d);
-        self.board.station = outcome::station_on(s, e, seen.identifier);
+        let s = outcome::station_on(self.board.station, e, seen.identifier);
+        self.board.station.last = s.last;
+        self.board.station.next = s.next;
         outcome::answer_of(i as u8, x)
     }
 }
