@@ -7,6 +7,7 @@ ghost use Rattle.digits.specs.Written.{Written};
 ghost use Rattle.digits.specs.Text.{HasRoom, Wrote};
 
 // One byte.
+// Stays: buffer and place apart here and in `write_decimal`; docs/PROMISES.md names both, and `Text` is built on them.
 pub fn put(out: &mut [u8], at: usize, byte: u8) -> usize
     requires { at < length out.old }
     ensures { Written (byte ∷ []) at out.old out.new result }
@@ -26,6 +27,7 @@ fn put_pair(out: &mut [u8], at: usize, n: u64) -> usize
 }
 
 // A number in decimal, two digits at a time.
+// Stays: digits by hand; `fmt` of std ensures nothing of the bytes that it writes.
 #[tactic(auto, using(crate::proofs::Digits::decimal_one, crate::proofs::Digits::decimal_pair, crate::proofs::Digits::two_more))]
 pub fn write_decimal(out: &mut [u8], at: usize, n: u64) -> usize
     requires { at + 20 ≤ length out.old }
@@ -66,6 +68,7 @@ impl<'a> Text<'a> {
         self.at = end;
     }
 
+    // A number in decimal.
     #[tactic(auto, using(crate::proofs::Digits::decimal_64))]
     pub fn decimal(&mut self, n: u64)
         requires { HasRoom 20 self.old }

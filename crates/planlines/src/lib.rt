@@ -1,5 +1,6 @@
 // The lines of an answer, written into a lent buffer: what the rehearsal of a plan says, or which line is no part of a plan.
-#![tactic(auto, using(digits::proofs::Texts::wrote_then, digits::proofs::Digits::decimal_8, digits::proofs::Digits::decimal_16))]
+// Stays: printing without `fmt`, of which std ensures nothing that `answer_text` could be shown by; and no heap.
+#![tactic(auto, using(digits::proofs::Digits::decimal_8, digits::proofs::Digits::decimal_16))]
 
 ghost use Rattle.std.specs.Prelude.{◌+◌, ◌*◌, ◌≤◌, length};
 ghost use Rattle.digits.specs.Written.{Written};
@@ -10,8 +11,7 @@ ghost use Rattle.planlines.specs.Lines.{ending_word, reason_word, step_text, way
 use digits::Text;
 use rehearsal::Rehearsed;
 
-// Stays: numbers for endings; `Rehearsed` is lent to C, and its ending is a byte there.
-#[tactic(auto, using(digits::proofs::Texts::wrote_at_most), unfolding(digits::specs::Digits::characters_of))]
+// Stays: endings by number; `Rehearsed` is answered to C, and its ending is a byte there.
 fn write_ending(text: &mut Text, ending: u8)
     requires { HasRoom 5 text.old }
     ensures { Wrote 5 (ending_word ending) text.old text.new }
@@ -23,7 +23,7 @@ fn write_ending(text: &mut Text, ending: u8)
     }
 }
 
-#[tactic(auto, using(digits::proofs::Texts::wrote_at_most), unfolding(digits::specs::Digits::characters_of))]
+// Stays: reasons by number, as `panels::reason_of` answers them and events bring them from C.
 fn write_reason(text: &mut Text, reason: u8)
     requires { HasRoom 4 text.old }
     ensures { Wrote 4 (reason_word reason) text.old text.new }
@@ -99,6 +99,7 @@ fn write_answer(text: &mut Text, plan: &[u16], start: u16, a: Rehearsed)
 }
 
 // What the rehearsal of a plan says.
+// Stays: buffer and place apart here and in `write_fault`; docs/PROMISES.md names both.
 pub fn write_rehearsal(out: &mut [u8], at: usize, plan: &[u16], start: u16) -> usize
     requires { at + 2845 ≤ length out.old }
     ensures { Written (rehearsal_text plan.now start) at out.old out.new result }

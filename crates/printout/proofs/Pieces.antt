@@ -1,24 +1,18 @@
 -- The pieces of a line, in the order in which they are written. Assumes nothing.
-use Prim.Native.Nat.{ℕ, suc, ◌+◌, ◌^◌, ◌≤◌, ◌<◌}
-use mathlib.Core.List.{List, [], ◌∷◌, ◌++◌, append_assoc}
+use Prim.Native.Nat.{ℕ, suc, ◌^◌, ◌≤◌, ◌<◌}
+use mathlib.Core.List.{List, ◌++◌, append_assoc}
 use mathlib.Core.Path.{◌≡◌}
 use native.Mathlib.Omega.{arith}
-use borrow.Author.Tests.{eq-eqb, ne_eqb}
 use lib.Dec.{eqb}
 use lib.ListN.{length}
-use Rattle.ground.specs.Choice.{when◌then◌else◌}
 use Rattle.ground.proofs.Bools.{by_cases}
-use Rattle.call.specs.declared.Sent.{Sent}
 use Rattle.notice.specs.Notice.{no_notice, no_number}
 use Rattle.call.specs.Messages.{no_identifier, no_counter}
 use Rattle.station.specs.declared.Answer.{Answer}
 use Rattle.station.specs.Station.{no_call}
-use Rattle.digits.specs.declared.Text.{Text}
 use Rattle.digits.specs.Digits.{decimal, space, newline}
-use Rattle.digits.specs.Text.{Wrote}
-use Rattle.digits.proofs.Texts.{wrote_then, wrote_at_most}
 use Rattle.digits.proofs.Digits.{decimal_within}
-use Rattle.printout.specs.Line.{leg_text, dash, column, letter_with_leg, messages, line}
+use Rattle.printout.specs.Line.{column, messages, line}
 
 column_within : (k none n : ℕ) → n < 10 ^ suc k → length (space ++ column none n) ≤ suc (suc k)
 column_within k none n h = by_cases (eqb n none) (λ t. rw t (omega arith)) (λ f. rw f (omega (arith, decimal_within k n h)))

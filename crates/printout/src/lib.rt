@@ -1,21 +1,22 @@
 // The panel printout: the text of a line, written into a lent buffer.
-#![tactic(auto, using(digits::proofs::Texts::wrote_then))]
+// Stays: printing without `fmt`, of which std ensures nothing that `line` could be shown by; and no heap.
+#![tactic(auto)]
 
-ghost use Rattle.std.specs.Prelude.{[], ◌∷◌, ◌++◌, ◌+◌, ◌≤◌, length, eqb};
-ghost use Rattle.ground.specs.Choice.{when◌then◌else◌};
+ghost use Rattle.std.specs.Prelude.{◌++◌, ◌+◌, ◌≤◌, length};
 ghost use Rattle.digits.specs.Digits.{decimal, space, newline};
 ghost use Rattle.digits.specs.Written.{Written};
 ghost use Rattle.digits.specs.Text.{HasRoom, Wrote};
-ghost use Rattle.printout.specs.Line.{column, leg_text, messages, line, cut_line};
+ghost use Rattle.printout.specs.Line.{column, leg_text, letter_with_leg, messages, line, cut_line};
 ghost use Rattle.notice.specs.Notice.{no_notice, no_number};
-ghost use Rattle.call.specs.Messages.{no_identifier, no_counter, no_letter};
+ghost use Rattle.call.specs.Messages.{no_identifier, no_counter};
 ghost use Rattle.station.specs.Station.{no_call};
 
-use call::Sent;
+use call::{Message, Sent};
 use digits::Text;
 use station::Answer;
 
 // A column with the space before it: its value, or a dash for none.
+// Stays: a number for none; what is none in each column is the C interface's (`Answer`).
 fn write_column(text: &mut Text, none: u64, n: u64)
     requires { HasRoom 21 text.old }
     ensures { Wrote 21 (space ++ column none n) text.old text.new }
@@ -50,6 +51,7 @@ fn write_shown(text: &mut Text, call: u8, notice: u8, number: u16)
 }
 
 // A leg; 0 is none.
+// Stays: 0 for no leg and for no letter; a message lies in `Answer`, which C reads.
 fn write_leg(text: &mut Text, leg: u8)
     requires { HasRoom 20 text.old }
     ensures { Wrote 3 (leg_text leg) text.old text.new }
@@ -60,13 +62,13 @@ fn write_leg(text: &mut Text, leg: u8)
 }
 
 // A message's letter with its leg; a letter of 0 is no message.
-fn write_message(text: &mut Text, letter: u8, leg: u8)
+fn write_message(text: &mut Text, m: Message)
     requires { HasRoom 21 text.old }
-    ensures { Wrote 4 (when eqb letter no_letter then [] else letter ∷ leg_text leg) text.old text.new }
+    ensures { Wrote 4 (letter_with_leg m) text.old text.new }
 {
-    if letter != 0 {
-        text.put(letter);
-        write_leg(text, leg);
+    if m.letter != 0 {
+        text.put(m.letter);
+        write_leg(text, m.leg);
     }
 }
 
@@ -75,15 +77,12 @@ fn write_messages(text: &mut Text, sent: Sent)
     requires { HasRoom 29 text.old }
     ensures { Wrote 12 (messages sent) text.old text.new }
 {
-    let a = sent.first;
-    let b = sent.second;
-    let c = sent.third;
-    if a.letter == 0 {
+    if sent.first.letter == 0 {
         text.put(b'-');
     } else {
-        write_message(text, a.letter, a.leg);
-        write_message(text, b.letter, b.leg);
-        write_message(text, c.letter, c.leg);
+        write_message(text, sent.first);
+        write_message(text, sent.second);
+        write_message(text, sent.third);
     }
 }
 
@@ -101,16 +100,16 @@ fn write_end(text: &mut Text, identifier: u32, counter: u8, sent: Sent)
 }
 
 // The line of an answer at its position: 67 bytes at most. It asks for room for 20 digits at each number.
+// Stays: buffer and place apart here and in `write_cut`; docs/PROMISES.md names both.
 pub fn write_line(out: &mut [u8], at: usize, position: u64, a: Answer) -> usize
     requires { at + 96 ≤ length out.old }
     ensures written { Written (line position a) at out.old out.new result }
     ensures upper_bound { result ≤ at + 67 }
 {
-    let sent = a.sent;
     let mut text = Text { out, at };
     write_start(&mut text, position, a.code);
     write_shown(&mut text, a.call, a.notice, a.number);
-    write_end(&mut text, a.identifier, a.counter, sent);
+    write_end(&mut text, a.identifier, a.counter, a.sent);
     text.at
 }
 
@@ -119,9 +118,9 @@ pub fn write_cut(out: &mut [u8], at: usize, count: usize) -> usize
     requires { at + 25 ≤ length out.old }
     ensures { Written (cut_line count) at out.old out.new result }
 {
-    let mut text = Text { out, at };
-    text.put_bytes(b"cut ");
-    text.decimal(count as u64);
-    text.put(b'\n');
-    text.at
+    let mut cut = Text { out, at };
+    cut.put_bytes(b"cut ");
+    cut.decimal(count as u64);
+    cut.put(b'\n');
+    cut.at
 }

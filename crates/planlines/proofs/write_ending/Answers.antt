@@ -1,8 +1,12 @@
-use Rattle.std.proofs.Common.{arith, length}
+use Rattle.std.proofs.Common.{arith}
 use borrow.Author.Tests.{ne_eqb}
 use Rattle.digits.proofs.Texts.{wrote_at_most}
 use Rattle.digits.specs.Digits.{characters_of}
 use Rattle.planlines.proofs.write_ending.Goals as goal
+
+pub returns-in-1 : goal.returns-in-1
+unfolding characters_of
+returns-in-1 c = rw c.in-1.is c.put_bytes.ensures
 
 pub returns-in-2 : goal.returns-in-2
 unfolding characters_of

@@ -1,4 +1,4 @@
-use Rattle.std.proofs.Common.{arith, length}
+use Rattle.std.proofs.Common.{arith}
 use borrow.Author.Tests.{ne_eqb}
 use Rattle.digits.proofs.Texts.{wrote_at_most}
 use Rattle.digits.specs.Digits.{characters_of}

@@ -1,8 +1,7 @@
 use Rattle.std.proofs.Common.{arith}
-use Rattle.std.proofs.lemmas.Grind.{common_steps}
-use Rattle.digits.proofs.Digits.{decimal_within}
-use Rattle.digits.proofs.Texts.{wrote_at_most}
+use borrow.Author.Tests.{ne_eqb}
+use Rattle.digits.proofs.Digits.{wrote_8}
 use Rattle.printout.proofs.write_leg.Goals as goal
 
 pub returns-then-leg-ne0 : goal.returns-then-leg-ne0
-returns-then-leg-ne0 c = let w = wrote_at_most c.decimal.ensures (decimal_within 2 c.args.leg (omega arith)) in grind (arith, common_steps)
+returns-then-leg-ne0 c = rw (ne_eqb c.args.leg 0 c.if-leg-ne0.true) (wrote_8 c.decimal.ensures (omega arith))
