@@ -1,5 +1,5 @@
 // The lines of an answer, written into a lent buffer: what the rehearsal of a plan says, or which line is no part of a plan.
-// Stays: printing without `fmt`, of which std ensures nothing that `answer_text` could be shown by; and no heap.
+// Stays: printing without `fmt`; std ensures nothing of the bytes that it writes.
 #![tactic(auto, using(digits::proofs::Digits::decimal_8, digits::proofs::Digits::decimal_16))]
 
 ghost use Rattle.std.specs.Prelude.{◌+◌, ◌*◌, ◌≤◌, length};

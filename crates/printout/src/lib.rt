@@ -1,5 +1,5 @@
 // The panel printout: the text of a line, written into a lent buffer.
-// Stays: printing without `fmt`, of which std ensures nothing that `line` could be shown by; and no heap.
+// Stays: printing without `fmt`; std ensures nothing of the bytes that it writes.
 #![tactic(auto)]
 
 ghost use Rattle.std.specs.Prelude.{◌++◌, ◌+◌, ◌≤◌, length};
