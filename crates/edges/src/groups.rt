@@ -32,6 +32,7 @@ fn played(rt: HostRuntime, bytes: &[u8]) {
 }
 
 // Reads until the buffer is full, the input ends or a read fails: how many bytes stand at its start.
+// Stays: each turn goes on by what its read gave, which no `for` counts.
 fn read_full(rt: HostRuntime, bytes: &mut [u8]) -> usize
     ensures { result ≤ length bytes.new }
 {
