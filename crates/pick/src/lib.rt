@@ -2,7 +2,7 @@
 // identifiers are copied out, and what they tell. No record is looked at here.
 #![tactic(auto)]
 
-ghost use Rattle.std.specs.Prelude.{◌≡◌, ◌-◌, length};
+ghost use Rattle.std.specs.Prelude.{◌≡◌, ◌-◌};
 ghost use Rattle.timed.specs.Timed.{t1};
 ghost use Rattle.pick.specs.Pick.{asked_of, place_seen, wants_column, apart_where, from_column, as_it_stands};
 
@@ -29,26 +29,19 @@ pub struct Pick {
 fn due_before(time: u64) -> u64
     ensures { result ≡ time - (t1 - 1) }
 {
-    if time < expiry::T1 {
-        0
-    } else {
-        time - (expiry::T1 - 1)
-    }
+    time.saturating_sub(expiry::T1 - 1)
 }
 
 // What the survey is asked.
 pub fn asked(input: Input) -> Asked
     ensures { result ≡ asked_of input }
 {
-    let last = input.station.last;
-    let by = due_before(input.event.time);
-    let next = input.station.next;
-    let pending = input.station.remote.pending;
+    let station = input.station;
     Asked {
-        last: last,
-        by: by,
-        next: next,
-        pending: pending,
+        last: station.last,
+        by: due_before(input.event.time),
+        next: station.next,
+        pending: station.remote.pending,
     }
 }
 
@@ -71,7 +64,6 @@ pub fn wants_column(v: Noted, input: Input) -> bool
 
 // Identifiers are compared only where two marks are the same.
 fn apart_where(clash: bool, held: &[u32; 68]) -> bool
-    requires { length held.now ≡ 68 }
     ensures { result ≡ apart_where clash held.now }
 {
     if clash { table::apart(held) } else { true }
@@ -87,19 +79,15 @@ pub fn from_column(input: Input, v: Noted, held: [u32; 64]) -> Pick
     let all = draw::joined(&held, p);
     let apart = apart_where(v.clash, &all);
     let identifier = draw::identifier_in(e, &held, p, next);
-    Pick {
-        apart: apart,
-        identifier: identifier,
-    }
+    Pick { apart, identifier }
 }
 
 // All marks differ; and no identifier is asked for, or the next one has no mark.
 pub fn as_it_stands(input: Input) -> Pick
     ensures { result ≡ as_it_stands input }
 {
-    let next = input.station.next;
     Pick {
         apart: true,
-        identifier: next,
+        identifier: input.station.next,
     }
 }
