@@ -24,7 +24,7 @@ pub fn turned(s: Station, e: Event, seen: Seen) -> Result<DoneOn, Refusal>
     if e.time < s.last {
         return Err(Refusal::Early);
     }
-    if !wellmade::well_made(e.kind, e) {
+    if !wellmade::well_made(e) {
         return Err(Refusal::IllMade);
     }
     numbers::number_by_kind(s, e, seen)?;

@@ -168,11 +168,10 @@ fn message_fields(e: Event) -> bool
 // The kind is one of the table, and each field is as its row says. Only the row of the event's kind is looked at; neighbours
 // have an arm each, since `1 | 2` would be compiled as a range, tested after all others.
 #[tactic(auto, unfolding(event::specs::WellMade::call_made))]
-fn call_made(kind: u8, e: Event) -> bool
-    requires { kind ≡ e.kind }
+fn call_made(e: Event) -> bool
     ensures { result ≡ call_made e }
 {
-    match kind {
+    match e.kind {
         1 => open_fields(e),
         2 => open_fields(e),
         3 => open_diverted_fields(e),
@@ -190,14 +189,12 @@ fn call_made(kind: u8, e: Event) -> bool
 }
 
 // The kind is one of 1 to 31, and each field is as the page says.
-// Stays: the kind beside its event: the function is public, and its callers hand over both.
 #[tactic(auto, unfolding(event::specs::WellMade::well_made))]
-pub fn well_made(kind: u8, e: Event) -> bool
-    requires { kind ≡ e.kind }
+pub fn well_made(e: Event) -> bool
     ensures { result ≡ well_made e }
 {
     if (16 <= e.kind) & (e.kind <= 31) {
         return farfields::remote_fields(e);
     }
-    call_made(kind, e)
+    call_made(e)
 }

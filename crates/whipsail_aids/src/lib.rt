@@ -59,7 +59,7 @@ pub extern "C" fn whipsail_event_at(bytes: &[u8], i: usize) -> Read
 pub extern "C" fn whipsail_well_made(e: Event) -> bool
     ensures { result ≡ well_made e }
 {
-    wellmade::well_made(e.kind, e)
+    wellmade::well_made(e)
 }
 
 // Who rings if a call is offered to this panel of the plan first: four numbers for each panel.
