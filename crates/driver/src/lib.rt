@@ -61,7 +61,12 @@ impl Driver {
         let place = board::place_on(e, self.notes.free, self.notes.soon, &self.notes.dues);
         let i = board::within(place, self.board.len);
         let c = self.board.calls[i];
-        let identifier = draw::identifier_in(e, &self.notes.held, self.board.station.remote.pending, self.board.station.next);
+        let identifier = draw::identifier_in(
+            e,
+            &self.notes.held,
+            self.board.station.remote.pending,
+            self.board.station.next,
+        );
         let seen = Seen {
             len: self.board.len,
             place: place,
@@ -110,6 +115,7 @@ impl Driver {
         self.notes.dues[i] = due;
         self.notes.soon = self.notes.soon.min(due);
         self.notes.held[i] = draw::held_by(d);
+        // A station is 88 bytes: what changes of it is stored alone
         let s = outcome::station_on(self.board.station, e, seen.identifier);
         self.board.station.last = s.last;
         self.board.station.next = s.next;

@@ -2,8 +2,7 @@
 use Prim.Native.Nat.{ℕ, suc, ◌+◌, ◌-◌, ◌*◌, ◌≤◌, ◌<◌}
 use mathlib.Core.Bool.{true}
 use mathlib.Core.List.{List, [], ◌∷◌, ◌++◌, append_assoc, append-nil, flatten}
-use mathlib.Core.Path.{◌≡◌, refl, sym, ◌∙◌}
-use native.Mathlib.Nat.{add-zero, sub-zero}
+use mathlib.Core.Path.{◌≡◌, sym, ◌∙◌}
 use native.Mathlib.Omega.{arith}
 use lib.ListN.{length}
 use Rattle.std.specs.Prelude.{Result}
@@ -22,7 +21,6 @@ use Rattle.printout.specs.Line.{line, printed}
 use Rattle.printout.specs.Panel.{lines_text}
 use Rattle.digits.specs.Written.{Written}
 use Rattle.digits.proofs.Texts.{and_then}
-use Rattle.digits.proofs.Texts.{unwritten}
 use Rattle.panel.specs.Play.{board_after}
 use Rattle.panel.proofs.Boards.{stays_long, lines_on_lem, after_none, after_more}
 
@@ -40,19 +38,6 @@ pub record Playing (b : Board) (position : ℕ) (bytes old : List ℕ) (n : ℕ)
   pub left : board_after board (events_from bytes (i * 24) (n - i)) ≡ board_after b (events_from bytes 0 n)
 
 module _ (b : Board) (position : ℕ) (bytes old : List ℕ) (n : ℕ) where
-  pub playing_start : length b.calls ≡ 64 → sound_board b ≡ true → Playing b position bytes old n b old 0 0
-  playing_start l h = record {
-    upto = omega arith;
-    long = l;
-    sound = h;
-    room = omega arith;
-    same = refl;
-    done = [];
-    text = unwritten 0 old;
-    lines = rw (add-zero, sub-zero);
-    left = rw sub-zero;
-  }
-
   events_next : (i : ℕ) → i < n → events_from bytes (i * 24) (n - i) ≡ event_at bytes (i * 24) ∷ events_from bytes ((i + 1) * 24) (n - (i + 1))
   unfolding events_from
   events_next i h =
