@@ -27,6 +27,7 @@ fn codes_word(e: Event) -> u32
     u32::from_le_bytes([e.reason, e.option, e.counter, e.flag])
 }
 
+// Stays: the sums of two fields of 16 bits, since no conversion of the library's makes one number of two; by way of four bytes it is no plainer.
 fn first_word(e: Event) -> u32
     ensures { result ≡ first_word e }
 {
@@ -45,19 +46,19 @@ fn event_of(head: u32, codes: u32, first: u32, second: u32, time: u64) -> Event
     let [kind, call, leg, message] = head.to_le_bytes();
     let [reason, option, counter, flag] = codes.to_le_bytes();
     Event {
-        kind: kind,
-        call: call,
-        leg: leg,
-        message: message,
-        reason: reason,
-        option: option,
-        counter: counter,
-        flag: flag,
+        kind,
+        call,
+        leg,
+        message,
+        reason,
+        option,
+        counter,
+        flag,
         identifier: (first % 65536) as u16,
         first: (first / 65536) as u16,
         second: (second % 65536) as u16,
         third: (second / 65536) as u16,
-        time: time,
+        time,
     }
 }
 
@@ -86,8 +87,8 @@ pub fn decided_on(input: Input, v: Noted, n: usize, p: Pick, c: Call) -> Decisio
     let identifier = p.identifier;
     let seen = Seen {
         len: n,
-        place: place,
-        identifier: identifier,
+        place,
+        identifier,
         call: c,
     };
     match turn::turned(s, e, seen) {
