@@ -14,5 +14,5 @@ pub fn in_bounds(len: usize, s: Station) -> bool
     let limit = s.limit;
     let next = s.next;
     let held = holding::remote_holds(s.last, remote);
-    ((1 <= len) & (len <= 64)) & (((1 <= limit) & (limit <= 15)) & !(next == 0) & held)
+    ((1 <= len) & (len <= 64)) & (((1 <= limit) & (limit <= 15)) & (next != 0) & held)
 }

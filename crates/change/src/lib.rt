@@ -17,29 +17,22 @@ pub struct Reply {
     pub station: Station,
 }
 
-// What becomes of the records: the one at `place` becomes `call`, or none changes where `count` is 0.
-#[derive(Clone, Copy)]
-pub struct Change {
-    pub place: usize,
-    pub count: usize,
-    pub call: Call,
-}
-
-// What goes out, and what becomes of the records.
+// What goes out, and the record that changes with its place, if one does.
 #[derive(Clone, Copy)]
 pub struct Decision {
-    pub change: Change,
+    pub change: Option<(usize, Call)>,
     pub reply: Reply,
 }
 
 // The two parts of a decision.
-pub fn change_of(d: Decision) -> Change
+pub fn change_of(d: Decision) -> Option<(usize, Call)>
     ensures { result ≡ d.change }
 {
     d.change
 }
 
-// A request, field by field: as a whole it is moved with the five bytes behind its last field, which the compiler then carries through every arm.
+// A request, field by field.
+// Stays: as a whole it is moved with the five bytes behind its last field, which the compiler then carries through every arm.
 fn request_by_fields(p: Pending) -> Pending
     ensures { result ≡ p }
 {
@@ -51,39 +44,35 @@ fn request_by_fields(p: Pending) -> Pending
 }
 
 // The same for all that a station holds.
+// Stays: for the same reason.
 fn station_by_fields(s: Station) -> Station
     ensures { result ≡ s }
 {
     let held = s.remote;
-    let kept = held.kept;
-    let pending = Pendings {
-        activation: request_by_fields(held.pending.activation),
-        deactivation: request_by_fields(held.pending.deactivation),
-        interrogation: request_by_fields(held.pending.interrogation),
-        check: request_by_fields(held.pending.check),
-    };
-    let remote = Remote {
-        pending: pending,
-        kept: kept,
-        enabled: held.enabled,
-        allowed: held.allowed,
-    };
     Station {
         last: s.last,
         next: s.next,
         limit: s.limit,
-        remote: remote,
+        remote: Remote {
+            pending: Pendings {
+                activation: request_by_fields(held.pending.activation),
+                deactivation: request_by_fields(held.pending.deactivation),
+                interrogation: request_by_fields(held.pending.interrogation),
+                check: request_by_fields(held.pending.check),
+            },
+            kept: held.kept,
+            enabled: held.enabled,
+            allowed: held.allowed,
+        },
     }
 }
 
 pub fn reply_of(d: Decision) -> Reply
     ensures { result ≡ d.reply }
 {
-    let answer = d.reply.answer;
-    let station = station_by_fields(d.reply.station);
     Reply {
-        answer: answer,
-        station: station,
+        answer: d.reply.answer,
+        station: station_by_fields(d.reply.station),
     }
 }
 
@@ -91,20 +80,12 @@ pub fn reply_of(d: Decision) -> Reply
 pub fn unchanged(code: u8, s: Station) -> Decision
     ensures { result ≡ unchanged_as code s }
 {
-    let answer = fresh::empty_answer(code);
-    let reply = Reply {
-        answer: answer,
-        station: s,
-    };
-    let free = blank::free_call();
-    let change = Change {
-        place: 0,
-        count: 0,
-        call: free,
-    };
     Decision {
-        change: change,
-        reply: reply,
+        change: None,
+        reply: Reply {
+            answer: fresh::empty_answer(code),
+            station: s,
+        },
     }
 }
 
@@ -112,14 +93,13 @@ pub fn unchanged(code: u8, s: Station) -> Decision
 pub fn moved(m: Moved, s: Station) -> Decision
     ensures { result ≡ moved_as m s }
 {
-    let answer = outcome::far_answer(m);
-    let reply = Reply {
-        answer: answer,
-        station: s,
-    };
-    let mut out = unchanged(0, s);
-    out.reply = reply;
-    out
+    Decision {
+        reply: Reply {
+            answer: outcome::far_answer(m),
+            station: s,
+        },
+        ..unchanged(0, s)
+    }
 }
 
 // The record at i changes.
@@ -127,19 +107,11 @@ pub fn changed(i: usize, x: Effect, s: Station) -> Decision
     requires { i < 64 }
     ensures { result ≡ changed_as i x s }
 {
-    let answer = outcome::answer_of(i as u8, x);
-    let reply = Reply {
-        answer: answer,
-        station: s,
-    };
-    let c = x.call;
-    let change = Change {
-        place: i,
-        count: 1,
-        call: c,
-    };
     Decision {
-        change: change,
-        reply: reply,
+        change: Some((i, x.call)),
+        reply: Reply {
+            answer: outcome::answer_of(i as u8, x),
+            station: s,
+        },
     }
 }

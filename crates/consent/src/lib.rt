@@ -1,7 +1,7 @@
 // What another panel's invoke gets of us, kinds 20 to 23: a result where we agree, with what is kept after it, else a return error.
 #![tactic(auto)]
 
-ghost use Rattle.std.specs.Prelude.{◌≡◌, not, eqb};
+ghost use Rattle.std.specs.Prelude.{◌≡◌};
 ghost use Rattle.remote.specs.Held.{kept_for, with_kept};
 ghost use Rattle.remote.specs.Rules.{echo_of, stands, accepts, kept_after, told, agreed, declined, received};
 
@@ -13,122 +13,86 @@ use remote::{Kept, Moved, Remote};
 fn kept_for(reason: u8, k: Kept) -> u16
     ensures { result ≡ kept_for reason k }
 {
-    if reason == 1 {
-        k.cfu
-    } else if reason == 2 {
-        k.cfb
-    } else {
-        k.cfnr
+    match reason {
+        1 => k.cfu,
+        2 => k.cfb,
+        _ => k.cfnr,
     }
 }
 
 fn with_kept(reason: u8, number: u16, k: Kept) -> Kept
     ensures { result ≡ with_kept reason number k }
 {
-    let mut q = k;
-    if reason == 1 {
-        q.cfu = number;
-        return q;
+    match reason {
+        1 => Kept { cfu: number, ..k },
+        2 => Kept { cfb: number, ..k },
+        _ => Kept { cfnr: number, ..k },
     }
-    if reason == 2 {
-        q.cfb = number;
-        return q;
-    }
-    q.cfnr = number;
-    q
 }
 
 fn echo_of(letter: u8, e: Event, destination: u16) -> Message
     ensures { result ≡ echo_of letter e destination }
 {
     Message {
-        letter: letter,
-        leg: 0,
-        reason: 0,
-        option: 0,
-        counter: 0,
-        flag: 0,
+        letter,
         identifier: e.identifier,
-        destination: destination,
-        diverting: 0,
-        original: 0,
-        number: 0,
+        destination,
+        ..Message::default()
     }
 }
 
 fn stands(r: Remote, e: Event) -> u16
     ensures { result ≡ stands r e }
 {
-    let kept = r.kept;
-    kept_for(e.reason, kept)
-}
-
-fn one_stands(r: Remote, e: Event) -> bool
-    ensures { result ≡ not (eqb (stands r e) 0) }
-{
-    let standing = stands(r, e);
-    !(standing == 0)
+    kept_for(e.reason, r.kept)
 }
 
 fn accepts(r: Remote, e: Event) -> bool
     ensures { result ≡ accepts r e }
 {
-    let sort = e.kind % 4;
-    let enabled = r.enabled;
-    let allowed = r.allowed;
-    if sort == 0 {
-        return enabled == 1;
+    match e.kind % 4 {
+        0 => r.enabled == 1,
+        3 => r.allowed == 1,
+        _ => stands(r, e) != 0,
     }
-    if sort == 3 {
-        return allowed == 1;
-    }
-    one_stands(r, e)
 }
 
 fn kept_after(r: Remote, e: Event) -> Kept
     ensures { result ≡ kept_after r e }
 {
-    let kept = r.kept;
-    let sort = e.kind % 4;
-    if sort == 0 {
-        return with_kept(e.reason, e.second, kept);
+    match e.kind % 4 {
+        0 => with_kept(e.reason, e.second, r.kept),
+        1 => with_kept(e.reason, 0, r.kept),
+        _ => r.kept,
     }
-    if sort == 1 {
-        return with_kept(e.reason, 0, kept);
-    }
-    kept
 }
 
 fn told(r: Remote, e: Event) -> u16
     ensures { result ≡ told r e }
 {
-    let sort = e.kind % 4;
-    if sort == 2 { stands(r, e) } else { 0 }
+    if e.kind % 4 == 2 { stands(r, e) } else { 0 }
 }
 
 fn agreed(r: Remote, e: Event) -> Moved
     ensures { result ≡ agreed r e }
 {
-    let destination = told(r, e);
-    let message = echo_of(b'r', e, destination);
-    let kept = kept_after(r, e);
-    let mut after = r;
-    after.kept = kept;
     Moved {
-        remote: after,
-        message: message,
-        identifier: e.identifier as u32,
+        remote: Remote {
+            kept: kept_after(r, e),
+            ..r
+        },
+        message: echo_of(b'r', e, told(r, e)),
+        identifier: u32::from(e.identifier),
     }
 }
 
 fn declined(r: Remote, e: Event) -> Moved
     ensures { result ≡ declined r e }
 {
-    let message = echo_of(b'e', e, 0);
     Moved {
         remote: r,
-        message: message,
-        identifier: e.identifier as u32,
+        message: echo_of(b'e', e, 0),
+        identifier: u32::from(e.identifier),
     }
 }
 

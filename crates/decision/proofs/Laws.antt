@@ -1,12 +1,13 @@
 -- A record changes only where there is one; what a decision stands for is the definition's step; and what the code of `decided_on` finds comes to the decision on it. Assumes nothing.
-use Prim.Native.Nat.{ℕ, ◌+◌, ◌≤◌, ◌<◌, zero-le}
+use Prim.Native.Nat.{ℕ, ◌<◌}
 use mathlib.Core.Bool.{Bool, true, false, ◌&&◌, ◌||◌, not}
 use mathlib.Core.List.{List}
 use mathlib.Core.Path.{◌≡◌, refl, ◌∙◌, subst}
-use native.Mathlib.Omega.{arith}
 use borrow.Author.Tests.{leb-false}
 use lib.Dec.{eqb}
 use lib.ListN.{length}
+use Rattle.std.specs.Option.{ForSome}
+use Rattle.std.proofs.lemmas.Option.{none-some, same_Some}
 use Rattle.ground.specs.Choice.{when◌then◌else◌}
 use Rattle.ground.proofs.Bools.{denied, upheld}
 use Rattle.event.specs.declared.Event.{Event}
@@ -19,12 +20,10 @@ use Rattle.bounds.specs.Bounds.{in_bounds}
 use Rattle.slice.specs.Table.{settled_at}
 use Rattle.survey.specs.declared.Noted.{Noted}
 use Rattle.sight.specs.declared.Seen.{Seen}
-use Rattle.turn.specs.declared.Turn.{Turn}
-use Rattle.turn.specs.declared.Turn.TheVariants.{Refused, Far, Done}
 use Rattle.sight.specs.Sight.{beyond}
 use Rattle.numbers.specs.Numbers.{number_of}
-use Rattle.deed.specs.Deed.{Doable}
-use Rattle.turn.specs.Turn.{seen_in, turn_of, decided_of, outcome_of}
+use Rattle.deed.specs.Deed.{Doable, acted_of}
+use Rattle.turn.specs.Turn.{Turn, Refused, Far, Done, seen_in, turn_of, decided_of, outcome_of}
 use Rattle.turn.proofs.Turns.{done_doable}
 use Rattle.turn.proofs.Laws.{decided_steps}
 use Rattle.pick.specs.declared.Input.{Input}
@@ -56,10 +55,10 @@ module _ (s : Station) (e : Event) (v : Seen) where
       go true false false h = leb-false v.len v.place h
       go false f b h = tt
 
-  within : (t : Turn) → There v t → (decision_of s e v t).change.place + (decision_of s e v t).change.count ≤ v.len
-  within (Refused code) h = zero-le
-  within Far h = zero-le
-  within Done h = omega (arith, h)
+  within : (t : Turn) → There v t → ForSome (decision_of s e v t).change (λ (place, c). place < v.len)
+  within (Refused code) h w q = absurd (none-some w q)
+  within Far h w q = absurd (none-some w q)
+  within Done h w q = rw (← same_Some (v.place, (acted_of e v).call) w q) h
 
 module _ (s : Station) (calls : List Call) (e : Event) where
   decided_there : There (seen_in s calls e) (decided_of s calls e)
@@ -70,7 +69,7 @@ module _ (s : Station) (calls : List Call) (e : Event) where
       go true = turn_there s e (seen_in s calls e)
       go false = tt
 
-  pub decision_within : (decision_on s calls e).change.place + (decision_on s calls e).change.count ≤ length calls
+  pub decision_within : ForSome (decision_on s calls e).change (λ (place, c). place < length calls)
   unfolding decision_on
   decision_within = within s e (seen_in s calls e) (decided_of s calls e) decided_there
 

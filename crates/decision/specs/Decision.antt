@@ -11,9 +11,7 @@ use Rattle.survey.specs.declared.Noted.{Noted}
 use Rattle.sight.specs.declared.Seen.{Seen}
 use Rattle.outcome.specs.Outcome.{station_on, station_far}
 use Rattle.deed.specs.Deed.{acted_of}
-use Rattle.turn.specs.declared.Turn.{Turn}
-use Rattle.turn.specs.declared.Turn.TheVariants.{Refused, Far, Done}
-use Rattle.turn.specs.Turn.{seen_in, turn_of, moved_of, decided_of}
+use Rattle.turn.specs.Turn.{Turn, Refused, Far, Done, seen_in, turn_of, moved_of, decided_of}
 use Rattle.pick.specs.declared.Input.{Input}
 use Rattle.pick.specs.declared.Pick.{Pick}
 use Rattle.pick.specs.Pick.{place_seen}
@@ -32,7 +30,7 @@ decision_on s calls e = decision_of s e (seen_in s calls e) (decided_of s calls 
 
 -- the outcome that a decision stands for
 abbrev pub outcome_by : List Call → Decision → Outcome
-outcome_by calls d = record { answer = d.reply.answer; station = d.reply.station; calls = settled_at d.change.place d.change.count d.change.call calls }
+outcome_by calls d = record { answer = d.reply.answer; station = d.reply.station; calls = settled_at d.change calls }
 
 abbrev pub seen_by : Input → Noted → ℕ → Pick → Call → Seen
 seen_by input v n p c = record { len = n; place = place_seen v input; identifier = p.identifier; call = c }

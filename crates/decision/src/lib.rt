@@ -8,28 +8,26 @@ ghost use Rattle.decision.specs.Words.{head_word, codes_word, first_word, second
 
 use call::Call;
 use change::Decision;
-use event::Event;
+use event::{Event, Refusal};
 use pick::{Input, Pick};
 use sight::Seen;
 use survey::Noted;
-use turn::Turn;
+use turn::DoneOn;
 
 // Fields side by side, as one number: the compiler reads it by one load.
 fn head_word(e: Event) -> u32
     ensures { result ≡ head_word e }
 {
-    (e.kind as u32) + 256 * (e.call as u32) + 65536 * (e.leg as u32) + 16777216 * (e.message as u32)
+    u32::from_le_bytes([e.kind, e.call, e.leg, e.message])
 }
 
 fn codes_word(e: Event) -> u32
     ensures { result ≡ codes_word e }
 {
-    (e.reason as u32)
-        + 256 * (e.option as u32)
-        + 65536 * (e.counter as u32)
-        + 16777216 * (e.flag as u32)
+    u32::from_le_bytes([e.reason, e.option, e.counter, e.flag])
 }
 
+// Stays: the sums of two fields of 16 bits, since no conversion of the library's makes one number of two; by way of four bytes it is no plainer.
 fn first_word(e: Event) -> u32
     ensures { result ≡ first_word e }
 {
@@ -45,20 +43,22 @@ fn second_word(e: Event) -> u32
 fn event_of(head: u32, codes: u32, first: u32, second: u32, time: u64) -> Event
     ensures { result ≡ event_of head codes first second time }
 {
+    let [kind, call, leg, message] = head.to_le_bytes();
+    let [reason, option, counter, flag] = codes.to_le_bytes();
     Event {
-        kind: (head % 256) as u8,
-        call: (head / 256 % 256) as u8,
-        leg: (head / 65536 % 256) as u8,
-        message: (head / 16777216) as u8,
-        reason: (codes % 256) as u8,
-        option: (codes / 256 % 256) as u8,
-        counter: (codes / 65536 % 256) as u8,
-        flag: (codes / 16777216) as u8,
+        kind,
+        call,
+        leg,
+        message,
+        reason,
+        option,
+        counter,
+        flag,
         identifier: (first % 65536) as u16,
         first: (first / 65536) as u16,
         second: (second % 65536) as u16,
         third: (second / 65536) as u16,
-        time: time,
+        time,
     }
 }
 
@@ -79,34 +79,27 @@ pub fn decided_on(input: Input, v: Noted, n: usize, p: Pick, c: Call) -> Decisio
     ensures { result ≡ decision_by input v n p c }
 {
     let s = input.station;
-    let event = input.event;
-    let e = held(event);
-    let well = v.sound;
-    let apart = p.apart;
-    let identifier = p.identifier;
-    let fit = bounds::in_bounds(n, s);
-    if !(fit & well & apart) {
-        return change::unchanged(1, s);
+    let e = held(input.event);
+    if !(bounds::in_bounds(n, s) & v.sound & p.apart) {
+        return change::unchanged(Refusal::NotSound.number(), s);
     }
     let place = pick::place_seen(v, input);
+    let identifier = p.identifier;
     let seen = Seen {
         len: n,
-        place: place,
-        identifier: identifier,
+        place,
+        identifier,
         call: c,
     };
-    let t = turn::turned(s, e, seen);
-    match t {
-        Turn::Refused(code) => {
-            return change::unchanged(code, s);
-        }
-        Turn::Far => {
+    match turn::turned(s, e, seen) {
+        Err(refusal) => change::unchanged(refusal.number(), s),
+        Ok(DoneOn::Held) => {
             let m = follow::step(s.remote, e, identifier);
-            return change::moved(m, outcome::station_far(s, e, identifier, m.remote));
+            change::moved(m, outcome::station_far(s, e, identifier, m.remote))
         }
-        Turn::Done => {
+        Ok(DoneOn::Record) => {
             let x = deed::acted(e, seen);
-            return change::changed(place, x, outcome::station_on(s, e, identifier));
+            change::changed(place, x, outcome::station_on(s, e, identifier))
         }
     }
 }

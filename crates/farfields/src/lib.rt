@@ -10,17 +10,10 @@ use event::Event;
 fn type_fits(e: Event) -> bool
     ensures { result ≡ type_fits e }
 {
-    let reason = e.reason;
-    if (16 <= e.kind) & (e.kind <= 23) & !(e.kind % 4 == 3) {
-        return (1 <= reason) & (reason <= 3);
+    if matches!(e.kind, 16..=23) & (e.kind % 4 != 3) {
+        return matches!(e.reason, 1..=3);
     }
-    reason == 0
-}
-
-fn exactly(a: bool, b: bool) -> bool
-    ensures { result ≡ exactly a b }
-{
-    (a & b) | (!a & !b)
+    e.reason == 0
 }
 
 fn others_zero(e: Event) -> bool
@@ -38,22 +31,19 @@ fn others_zero(e: Event) -> bool
 fn first_fits(e: Event) -> bool
     ensures { result ≡ exactly (invokes e) (not (eqb e.first 0)) }
 {
-    exactly((16 <= e.kind) & (e.kind <= 23), !(e.first == 0))
+    matches!(e.kind, 16..=23) == (e.first != 0)
 }
 
 fn second_fits(e: Event) -> bool
     ensures { result ≡ exactly (has_destination e) (not (eqb e.second 0)) }
 {
-    exactly(
-        (e.kind == 16) | (e.kind == 20) | (e.kind == 26),
-        !(e.second == 0),
-    )
+    matches!(e.kind, 16 | 20 | 26) == (e.second != 0)
 }
 
 fn identifier_fits(e: Event) -> bool
     ensures { result ≡ only (asks e) (eqb e.identifier 0) }
 {
-    !((16 <= e.kind) & (e.kind <= 19)) | (e.identifier == 0)
+    !matches!(e.kind, 16..=19) | (e.identifier == 0)
 }
 
 // The fields of an event of kinds 16 to 31 are as the page says.

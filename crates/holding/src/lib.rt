@@ -2,9 +2,8 @@
 // when all of it is sound.
 #![tactic(auto)]
 
-ghost use Rattle.std.specs.Prelude.{◌≡◌, not, ◌&&◌, leb, eqb};
+ghost use Rattle.std.specs.Prelude.{◌≡◌};
 ghost use Rattle.event.specs.Refusals.{code_of};
-ghost use Rattle.timed.specs.Timed.{waits};
 ghost use Rattle.remote.specs.Held.{pending_of, pendings_hold, remote_holds};
 ghost use Rattle.remote.specs.Rules.{its, remote_refusal};
 ghost use Rattle.holding.specs.Numbers.{number_of};
@@ -15,97 +14,67 @@ use remote::{Pendings, Remote};
 use timed::Pending;
 
 // The request of a sort.
+// Stays: each byte may be handed in, and the definitions go by the number; an enum of the sorts would ask more.
 pub fn pending_of(sort: u8, p: Pendings) -> Pending
     ensures { result ≡ pending_of sort p }
 {
-    if sort == 0 {
-        p.activation
-    } else if sort == 1 {
-        p.deactivation
-    } else if sort == 2 {
-        p.interrogation
-    } else {
-        p.check
+    match sort {
+        0 => p.activation,
+        1 => p.deactivation,
+        2 => p.interrogation,
+        _ => p.check,
     }
-}
-
-// "16 to 19 with one of the same sort pending is 9"
-fn already_asked(p: Pending, kind: u8) -> bool
-    ensures { result ≡ (leb 16 kind && leb kind 19) && waits p }
-{
-    (16 <= kind) & (kind <= 19) & (p.wait == 1)
-}
-
-fn none_waits(p: Pending, kind: u8) -> bool
-    ensures { result ≡ (leb 24 kind && leb kind 31) && not (waits p) }
-{
-    (24 <= kind) & (kind <= 31) & !(p.wait == 1)
-}
-
-fn other_answer(p: Pending, kind: u8, identifier: u16) -> bool
-    ensures { result ≡ (leb 24 kind && leb kind 31) && not (eqb identifier p.identifier) }
-{
-    (24 <= kind) & (kind <= 31) & !(identifier == p.identifier)
 }
 
 fn its(r: Remote, e: Event) -> Pending
     ensures { result ≡ its r e }
 {
-    let pending = r.pending;
-    pending_of(e.kind % 4, pending)
+    pending_of(e.kind % 4, r.pending)
 }
 
-fn number_of(p: Pending, kind: u8, identifier: u16) -> Result<(), Refusal>
+// By the request of the event's sort: "16 to 19 with one of the same sort pending is 9"; an answer to none, and one of another.
+fn refusal_of(p: Pending, kind: u8, identifier: u16) -> Result<(), Refusal>
     ensures { code_of result ≡ number_of p kind identifier }
 {
-    if none_waits(p, kind) {
-        return Err(Refusal::NotTaken);
+    match kind {
+        24..=31 if p.wait != 1 => Err(Refusal::NotTaken),
+        24..=31 if identifier != p.identifier => Err(Refusal::OtherIdentifier),
+        16..=19 if p.wait == 1 => Err(Refusal::PendingAlready),
+        _ => Ok(()),
     }
-    if other_answer(p, kind, identifier) {
-        return Err(Refusal::OtherIdentifier);
-    }
-    if already_asked(p, kind) {
-        return Err(Refusal::PendingAlready);
-    }
-    Ok(())
 }
 
-// Numbers 11, 6 and 9 of an event of kinds 16 to 31; else 0.
+// An event of kinds 16 to 31 by itself: refused with 11, 6 or 9, or not.
 #[tactic(auto, unfolding(remote::specs::Rules::remote_refusal))]
 pub fn remote_refusal(r: Remote, e: Event) -> Result<(), Refusal>
     ensures { code_of result ≡ remote_refusal r e }
 {
-    let p = its(r, e);
-    number_of(p, e.kind, e.identifier)
+    refusal_of(its(r, e), e.kind, e.identifier)
 }
 
 // None of the four waits, which is one test of their codes.
 pub fn four_idle(p: Pendings) -> bool
     ensures { result ≡ four_idle p }
 {
-    let a = p.activation;
-    let d = p.deactivation;
-    let i = p.interrogation;
-    let c = p.check;
-    (a.wait == 0) & (d.wait == 0) & (i.wait == 0) & (c.wait == 0)
+    (p.activation.wait == 0)
+        & (p.deactivation.wait == 0)
+        & (p.interrogation.wait == 0)
+        & (p.check.wait == 0)
 }
 
-// The other fields of all four are 0: those of one width stand side by side, so that they are one test.
+// The other fields of all four are 0.
+// Stays: field by field, since those of one width side by side are one test.
 fn four_blank(p: Pendings) -> bool
     ensures { result ≡ four_blank p }
 {
-    let a = p.activation;
-    let d = p.deactivation;
-    let i = p.interrogation;
-    let c = p.check;
-    (a.start == 0)
-        & (d.start == 0)
-        & (i.start == 0)
-        & (c.start == 0)
-        & (a.identifier == 0)
-        & (d.identifier == 0)
-        & (i.identifier == 0)
-        & (c.identifier == 0)
+    (p.activation.start == 0)
+        & (p.deactivation.start == 0)
+        & (p.interrogation.start == 0)
+        & (p.check.start == 0)
+        & (p.activation.identifier == 0)
+        & (p.deactivation.identifier == 0)
+        & (p.interrogation.identifier == 0)
+        & (p.check.identifier == 0)
 }
 
 // All four are sound; mostly none waits.
@@ -115,11 +84,10 @@ fn pendings_hold(last: u64, p: Pendings) -> bool
     if four_idle(p) {
         return four_blank(p);
     }
-    let a = p.activation;
-    let d = p.deactivation;
-    let i = p.interrogation;
-    let c = p.check;
-    timed::holds(last, a) & timed::holds(last, d) & timed::holds(last, i) & timed::holds(last, c)
+    timed::holds(last, p.activation)
+        & timed::holds(last, p.deactivation)
+        & timed::holds(last, p.interrogation)
+        & timed::holds(last, p.check)
 }
 
 // What is held here is sound, but for shared identifiers.
@@ -127,6 +95,5 @@ fn pendings_hold(last: u64, p: Pendings) -> bool
 pub fn remote_holds(last: u64, r: Remote) -> bool
     ensures { result ≡ remote_holds last r }
 {
-    let pending = r.pending;
-    pendings_hold(last, pending) & (r.enabled <= 1) & (r.allowed <= 1)
+    pendings_hold(last, r.pending) & (r.enabled <= 1) & (r.allowed <= 1)
 }

@@ -10,7 +10,7 @@ use lib.Dec.{eqb, ltb, leb}
 use lib.ListN.{length}
 use Rattle.ground.specs.Choice.{when◌then◌else◌}
 use Rattle.ground.specs.Lists.{first}
-use Rattle.ground.proofs.Bools.{by_cases, upheld}
+use Rattle.ground.proofs.Bools.{by_cases}
 use Rattle.ground.proofs.Walks.{both, or_false}
 use Rattle.event.specs.declared.Event.{Event}
 use Rattle.event.specs.declared.Refusal.{Refusal}

@@ -46,12 +46,12 @@ fn number(kind: u8, s: Station, e: Event, seen: Seen) -> Result<(), Refusal>
 
 // The number of a well-made event by its kind, a literal in each arm of kinds 1 to 15; those of 16 to 31 have 11, 6 and 9. A well-made event has
 // no other kind: the last arm is never taken.
+// Stays: an arm for each kind, and the kind beside its event: so each arm is a test of its own; a const parameter would need the same clause.
 pub fn number_by_kind(s: Station, e: Event, seen: Seen) -> Result<(), Refusal>
     requires { (s.last ≤ e.time) × (well_made e ≡ true) }
     ensures { code_of result ≡ number_of s e seen }
 {
-    let kind = e.kind;
-    match kind {
+    match e.kind {
         1 => number(1, s, e, seen),
         2 => number(2, s, e, seen),
         3 => number(3, s, e, seen),

@@ -8,6 +8,7 @@ use call::Message;
 use timed::Pending;
 
 // The request of each sort, in the order of the sorts and of their timers T2 to T5.
+// Stays: of the C interface, as are the next two.
 #[repr(C)]
 #[derive(Clone, Copy, Default)]
 pub struct Pendings {
@@ -37,6 +38,7 @@ pub struct Remote {
 }
 
 // What an event leaves here and what its answer holds: at most one message.
+// Stays: the definitions and the answer to C have a number for the identifier, 65536 for none.
 #[repr(C)]
 #[derive(Clone, Copy)]
 pub struct Moved {
@@ -48,22 +50,9 @@ pub struct Moved {
 pub fn fresh(enabled: u8, allowed: u8) -> Remote
     ensures { result ≡ fresh enabled allowed }
 {
-    let none = timed::idle();
-    let pending = Pendings {
-        activation: none,
-        deactivation: none,
-        interrogation: none,
-        check: none,
-    };
-    let kept = Kept {
-        cfu: 0,
-        cfb: 0,
-        cfnr: 0,
-    };
     Remote {
-        pending: pending,
-        kept: kept,
-        enabled: enabled,
-        allowed: allowed,
+        enabled,
+        allowed,
+        ..Remote::default()
     }
 }

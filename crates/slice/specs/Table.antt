@@ -1,5 +1,5 @@
 -- A slice that a host lends, by its list: what of it is read, and what is written back.
-use Rattle.std.specs.Prelude.{ℕ, List, set, leb, eqb}
+use Rattle.std.specs.Prelude.{ℕ, Option, Some, None, List, set, leb}
 use Rattle.ground.specs.Choice.{when◌then◌else◌}
 use Rattle.call.specs.declared.Call.{Call}
 
@@ -11,6 +11,7 @@ cap = 64
 unfoldable pub fit_of : ℕ → ℕ
 fit_of len = when leb len cap then len else 0
 
--- the list with the record c at the place; as it was where the count is 0
-unfoldable pub settled_at : ℕ → ℕ → Call → List Call → List Call
-settled_at place count c l = when eqb count 0 then l else set l place c
+-- the list with the record that changes at its place; as it was where none does
+unfoldable pub settled_at : Option (ℕ × Call) → List Call → List Call
+settled_at None l = l
+settled_at (Some (place, c)) l = set l place c

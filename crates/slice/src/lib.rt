@@ -1,7 +1,8 @@
 // A host lends the table of calls as a slice of records: what of it is worked on, one record of it, and the one record that an event changes.
 #![tactic(auto)]
 
-ghost use Rattle.std.specs.Prelude.{◌≡◌, ◌+◌, ◌≤◌, ◌<◌, length, take, get_or};
+ghost use Rattle.std.specs.Prelude.{◌≡◌, ◌≤◌, ◌<◌, length, take, get_or};
+ghost use Rattle.std.specs.Option.{ForSome};
 ghost use Rattle.call.specs.Record.{free_call};
 ghost use Rattle.station.specs.Table.{at};
 ghost use Rattle.slice.specs.Table.{fit_of, settled_at};
@@ -30,19 +31,19 @@ pub fn record_at(table: &[Call], n: usize, i: usize) -> Call
     ensures { result ≡ at (take n table.now) i }
 {
     if i < n {
-        return read(table, i);
+        read(table, i)
+    } else {
+        blank::free_call()
     }
-    blank::free_call()
 }
 
-// The record at a place becomes c; none does where the count is 0.
+// The record that changes stands at its place; none changes where there is none.
 #[tactic(auto, unfolding(crate::specs::Table::settled_at))]
-pub fn settle(table: &mut [Call], place: usize, count: usize, c: Call)
-    requires { place + count ≤ length table.old }
-    ensures { table.new ≡ settled_at place count c table.old }
+pub fn settle(table: &mut [Call], change: Option<(usize, Call)>)
+    requires { ForSome change (λ (place, c). place < length table.old) }
+    ensures { table.new ≡ settled_at change table.old }
 {
-    if count == 0 {
-        return;
+    if let Some((place, c)) = change {
+        table[place] = c;
     }
-    table[place] = c;
 }

@@ -10,6 +10,7 @@ use event::{Event, Refusal};
 
 // Document 02, Eight: no sound record in the call's basic state takes the event. Here and below `basic_forbids` is that test, by the basic state
 // alone, and `forbids` the state rules'.
+// Stays: the kind beside its event, so that as a literal it decides its tests in numbers::number_by_kind; a const parameter would need the same clause.
 fn incoming_basic_forbids(kind: u8, c: Call, e: Event) -> bool
     requires { kind ≡ e.kind }
     ensures { result ≡ incoming_basic_forbids c e }
@@ -111,6 +112,7 @@ fn outgoing_number(kind: u8, c: Call, e: Event) -> Result<(), Refusal>
 }
 
 // 10 or 11 where "The state rules below don't take the event": by the groups of kinds.
+#[tactic(auto, unfolding(call::specs::State::basic_forbids, call::specs::State::state_forbids))]
 pub fn state_number(kind: u8, c: Call, e: Event) -> Result<(), Refusal>
     requires { kind ≡ e.kind }
     ensures { code_of result ≡ state_number c e }

@@ -1,11 +1,11 @@
 -- The laws of a timed request, once for every length. Assumes nothing.
-use Prim.Native.Nat.{ℕ, ◌-◌, ◌≤◌, ◌<◌}
+use Prim.Native.Nat.{ℕ, ◌-◌, ◌≤◌}
 use native.Mathlib.Omega.{arith}
 use mathlib.Core.Path.{◌≡◌, refl, sym, ◌∙◌}
 use mathlib.Core.Bool.{Bool, true, false, not, ◌&&◌}
 use mathlib.Core.List.{[], ◌∷◌}
 use lib.Dec.{T, leb, eqb, eqb→eq, leb→le, le→leb, T_not, not_T}
-use borrow.Author.Tests.{le-leb, lt-leb, leb-true, eq-eqb, ne_eqb, eqb-true, eqb-false}
+use borrow.Author.Tests.{le-leb, lt-leb, leb-true, eq-eqb, ne_eqb, eqb-true}
 use Rattle.ground.specs.Choice.{when◌then◌else◌}
 use Rattle.ground.proofs.Bools.{and_l, and_r, and_i, is_true, is_false, from_true, eq→eqb, by_cases, not_not}
 use Rattle.ground.proofs.Walks.{both}
@@ -88,12 +88,6 @@ waits_through length p [] w none = refl
 waits_through length p (h ∷ rest) w (spare n s) =
     let v : T (waits (after length h.time p h.moment)) = not_not (waits (after length h.time p h.moment)) (not_T (not (waits (after length h.time p h.moment))) (λ m. n (ends_only length h.time p h.moment w m))) in
     rw (waits_on length h.time p h.moment w v) (waits_through length p rest w s)
-
--- before its start no time has passed
-pub not_begun : (length time start : ℕ) → time < start → leb length (time - start) ≡ eqb length 0
-not_begun length time start h =
-    let z : time - start ≡ 0 = omega arith in
-    by_cases (eqb length 0) (λ e. rw (eqb-true length 0 e, z)) (λ e. let n : length ≡ 0 → ⊥ = eqb-false length 0 e in simp (e, lt-leb length (time - start) (omega arith)))
 
 -- what an ending tells, by what happened
 abbrev pub Tells : ℕ → ℕ → Pending → Moment → Type 0

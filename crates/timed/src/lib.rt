@@ -2,11 +2,12 @@
 #![tactic(auto)]
 
 ghost use Rattle.std.specs.Prelude.{◌≡◌};
-ghost use Rattle.timed.specs.Timed.{idle, asked, due, unused, holds};
+ghost use Rattle.timed.specs.Timed.{idle, asked, due, holds};
 
 // A request that waits: `wait` is 1, with its identifier and the time at which it was asked. Without one all is 0.
+// Stays: of the C interface, in the station that a host lends.
 #[repr(C)]
-#[derive(Clone, Copy, Default)]
+#[derive(Clone, Copy, Default, PartialEq, Eq)]
 pub struct Pending {
     pub start: u64,
     pub identifier: u16,
@@ -16,11 +17,7 @@ pub struct Pending {
 pub fn idle() -> Pending
     ensures { result ≡ idle }
 {
-    Pending {
-        start: 0,
-        identifier: 0,
-        wait: 0,
-    }
+    Pending::default()
 }
 
 // It is asked, and its timer starts.
@@ -29,7 +26,7 @@ pub fn asked(identifier: u16, time: u64) -> Pending
 {
     Pending {
         start: time,
-        identifier: identifier,
+        identifier,
         wait: 1,
     }
 }
@@ -38,29 +35,15 @@ pub fn asked(identifier: u16, time: u64) -> Pending
 pub fn is_due(length: u64, time: u64, p: Pending) -> bool
     ensures { result ≡ due length time p }
 {
-    let start = p.start;
-    let wait = p.wait;
-    if start <= time {
-        return (wait == 1) & (length <= time - start);
-    }
-    (wait == 1) & (length == 0)
-}
-
-fn unused(p: Pending) -> bool
-    ensures { result ≡ unused p }
-{
-    (p.wait == 0) & (p.identifier == 0) & (p.start == 0)
+    (p.wait == 1) & (length <= time.saturating_sub(p.start))
 }
 
 // It is sound, where the station's last time is given.
 pub fn holds(last: u64, p: Pending) -> bool
     ensures { result ≡ holds last p }
 {
-    let wait = p.wait;
-    let identifier = p.identifier;
-    let start = p.start;
-    if wait == 1 {
-        return !(identifier == 0) & (start <= last);
+    if p.wait == 1 {
+        return (p.identifier != 0) & (p.start <= last);
     }
-    unused(p)
+    p == Pending::default()
 }

@@ -6,6 +6,7 @@ ghost use Rattle.event.specs.WellMade.{open_fields, open_diverted_fields, call_o
 
 use event::Event;
 
+// Stays: a row's fields one by one, here and below, as in the page's table; a comparison with an event of zeros would serve few of the rows.
 fn open_fields(e: Event) -> bool
     ensures { result ≡ open_fields e }
 {
@@ -17,7 +18,7 @@ fn open_fields(e: Event) -> bool
         & (e.counter == 0)
         & (e.flag == 0)
         & (e.identifier == 0)
-        & !(e.first == 0)
+        & (e.first != 0)
         & (e.second == 0)
         & (e.third == 0)
 }
@@ -34,7 +35,7 @@ fn open_diverted_fields(e: Event) -> bool
         & (e.counter <= 15)
         & (e.flag == 0)
         & (e.identifier == 0)
-        & !(e.first == 0)
+        & (e.first != 0)
 }
 
 fn call_only(e: Event) -> bool
@@ -79,7 +80,7 @@ fn divert_fields(e: Event) -> bool
         & (e.flag == 0)
         & (e.identifier == 0)
         & (e.first == 0)
-        & !(e.second == 0)
+        & (e.second != 0)
         & (e.third == 0)
 }
 
@@ -92,7 +93,7 @@ fn outcome_fields(e: Event) -> bool
         & (e.option == 0)
         & (e.counter == 0)
         & (e.flag == 0)
-        & !(e.identifier == 0)
+        & (e.identifier != 0)
         & (e.first == 0)
         & (e.second == 0)
         & (e.third == 0)
@@ -127,7 +128,7 @@ fn rerouting_fields(e: Event) -> bool
         & (e.counter <= 15)
         & (e.flag == 0)
         & (e.first == 0)
-        & !(e.second == 0)
+        & (e.second != 0)
 }
 
 fn dli1_fields(e: Event) -> bool
@@ -141,7 +142,7 @@ fn dli1_fields(e: Event) -> bool
         & (e.flag == 0)
         & (e.identifier == 0)
         & (e.first == 0)
-        & !(e.second == 0)
+        & (e.second != 0)
         & (e.third == 0)
 }
 
@@ -159,13 +160,14 @@ fn message_fields(e: Event) -> bool
         & (e.identifier == 0)
         & (e.first == 0)
         & (e.third == 0)
-        & (!(e.flag == 0) | (e.second == 0))
-        & (!(e.message == 1) | !(e.flag == 0))
-        & (!(e.message == 4) | (e.flag == 0))
+        & ((e.flag != 0) | (e.second == 0))
+        & ((e.message != 1) | (e.flag != 0))
+        & ((e.message != 4) | (e.flag == 0))
 }
 
 // The kind is one of the table, and each field is as its row says. Only the row of the event's kind is looked at; neighbours
 // have an arm each, since `1 | 2` would be compiled as a range, tested after all others.
+#[tactic(auto, unfolding(event::specs::WellMade::call_made))]
 fn call_made(kind: u8, e: Event) -> bool
     requires { kind ≡ e.kind }
     ensures { result ≡ call_made e }
@@ -188,6 +190,7 @@ fn call_made(kind: u8, e: Event) -> bool
 }
 
 // The kind is one of 1 to 31, and each field is as the page says.
+// Stays: the kind beside its event: the function is public, and its callers hand over both.
 #[tactic(auto, unfolding(event::specs::WellMade::well_made))]
 pub fn well_made(kind: u8, e: Event) -> bool
     requires { kind ≡ e.kind }

@@ -15,7 +15,6 @@ pub extern "C" fn whipsail_lent_step(table: &mut [Call], input: Input) -> Reply
     ensures { (result ≡ reply_of table.old input) × (table.new ≡ table_after table.old input) }
 {
     let out = lent::looked(table, input);
-    let change = change::change_of(out);
-    slice::settle(table, change.place, change.count, change.call);
+    slice::settle(table, change::change_of(out));
     change::reply_of(out)
 }
