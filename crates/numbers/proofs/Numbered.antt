@@ -187,14 +187,14 @@ module _ (s : Station) (e : Event) (v : Seen) where
       (either (beyond v) (wrong_call v.call e) 4 _)
 
   -- kinds 1 to 15
-  pub number_later : (e.kind ≤ 15) × (s.last ≤ e.time) × (well_made e ≡ true) → later s e v ≡ number_of s e v
-  number_later (low, h, w) =
+  pub number_later : (kind : ℕ) → (kind ≡ e.kind) × (kind ≤ 15) × (s.last ≤ e.time) × (well_made e ≡ true) → later s e v ≡ number_of s e v
+  number_later kind (same, low, h, w) =
       by_cases (ltb e.kind 4)
       (λ t. let k = ltb-true e.kind 4 t in later_open w k ∙ sym (by_seen s e v ∙ numbers_open s e (beyond v) v.call (beyond v) h w k)) (λ n.
       let k = ltb-false e.kind 4 n in
       by_cases (eqb e.kind 10)
       (λ t. let q = eqb-true e.kind 10 t in later_clock q ∙ sym (by_seen s e v ∙ numbers_clock s e (beyond v) v.call (beyond v) h w q))
-      (λ f. let q = eqb-false e.kind 10 f in later_named k q ∙ sym (by_seen s e v ∙ numbers_named s e (beyond v) v.call (beyond v) h w k low q)))
+      (λ f. let q = eqb-false e.kind 10 f in later_named k q ∙ sym (by_seen s e v ∙ numbers_named s e (beyond v) v.call (beyond v) h w k (omega (arith, same, low)) q)))
 
   -- kinds 16 to 31
   pub number_far : s.last ≤ e.time → well_made e ≡ true → of_remote e ≡ true → remote_refusal s.remote e ≡ number_of s e v
