@@ -15,6 +15,7 @@ pub fn bit(i: usize) -> u64
 }
 
 // The lowest place whose bit is set; 64 where none is.
+// Stays: 64 for none, as trailing_zeros of the library has it and the contract promises.
 pub fn lowest(mask: u64) -> usize
     ensures { result ≡ count_trailing_zeros 64 mask }
 {

@@ -13,6 +13,7 @@ use call::Call;
 use event::Event;
 use station::Station;
 
+// Stays: a length beside 64 places, since C hands it in by value and there is no heap.
 #[repr(C)]
 #[derive(Clone, Copy)]
 pub struct Board {

@@ -13,6 +13,7 @@ use event::Event;
 use remote::{Moved, Pendings, Remote};
 use timed::Pending;
 
+// Stays: sorts by number, here and below, as holding::pending_of takes them.
 fn letter_of(sort: u8) -> u8
     ensures { result ≡ letter_of sort }
 {

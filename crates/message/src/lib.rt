@@ -24,6 +24,7 @@ pub fn bare(letter: u8, leg: u8) -> Message
     }
 }
 
+// Stays: a function for each number of messages, as the definitions `one`, `two` and `three` are.
 pub fn one(m: Message) -> Sent
     ensures { result ≡ one m }
 {

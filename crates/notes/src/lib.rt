@@ -8,6 +8,7 @@ ghost use Rattle.notes.specs.Notes.{notes_of};
 
 use call::Call;
 
+// Stays: columns of fixed length side by side, since there is no heap and a scan looks at one of them.
 #[derive(Clone, Copy)]
 pub struct Notes {
     pub free: u64,

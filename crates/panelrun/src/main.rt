@@ -10,6 +10,7 @@ use std::io;
 use std::io::Read;
 
 // What goes from turn to turn. The bytes held are those of a record that the next piece completes.
+// Stays: a count of bytes held beside a buffer of fixed length, since memory is fixed here too.
 #[derive(Clone, Copy)]
 pub struct Run {
     board: Board,

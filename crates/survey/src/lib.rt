@@ -30,6 +30,7 @@ struct Passed {
 }
 
 // What the walk tells: `clash` says that two open requests have one mark, `marked` that the identifier that a request would take first has one.
+// Stays: the length for a place that there is not, as in sight::Seen.
 #[derive(Clone, Copy)]
 pub struct Noted {
     pub sound: bool,
