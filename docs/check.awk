@@ -22,7 +22,7 @@ END {
 }
 
 function is_document(path) {
-    if (path == "docs/PORT.md") return 0
+    if (path == "docs/PORT.md" || path == "docs/DESIGN-PASS.md") return 0
     return path ~ /^(README|docs\/[^\/]*|host\/README|bench\/README)\.md$/ || holds_no_words(path)
 }
 
