@@ -199,20 +199,20 @@ fn touched(body: &str) -> Vec<(usize, Places)> {
 /// structs have none: of those some function touches every field, perhaps in
 /// parts, and nothing across two fields.
 const PLACES: [(&str, &str); 15] = [
-    ("event", "whipsail_aids::no_event"),
-    ("dli1", "queue::no_waits"),
-    ("waits", "queue::no_waits"),
-    ("history", "blank::free_call"),
-    ("call", "blank::free_call"),
-    ("pending", "timed::idle"),
-    ("pendings", "remote::fresh"),
-    ("kept", "remote::fresh"),
-    ("remote", "remote::fresh"),
-    ("station", "fresh::fresh_short"),
-    ("message", "blank::no_message"),
+    ("event", "event::EventDefault::default"),
+    ("dli1", "notice::Dli1Default::default"),
+    ("waits", "waits::WaitsDefault::default"),
+    ("history", "notice::HistoryDefault::default"),
+    ("call", "call::CallDefault::default"),
+    ("pending", "timed::PendingDefault::default"),
+    ("pendings", "remote::PendingsDefault::default"),
+    ("kept", "remote::KeptDefault::default"),
+    ("remote", "remote::RemoteDefault::default"),
+    ("station", "fresh::fresh_station"),
+    ("message", "call::MessageDefault::default"),
     ("answer", "fresh::empty_answer"),
     ("made", "fresh::fresh"),
-    ("read", "whipsail_aids::no_event"),
+    ("read", "whipsail_aids::whipsail_event_at"),
     ("rehearsed", "offers::end_at"),
 ];
 
