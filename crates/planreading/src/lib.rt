@@ -3,7 +3,7 @@
 
 ghost use Rattle.std.specs.Prelude.{◌≡◌, ◌+◌, ◌≤◌, length};
 ghost use Rattle.digits.specs.Written.{wrote};
-ghost use Rattle.plantext.specs.Text.{so_far, onward, numbers_before, start_after, at_fault, digit_read, space_read, line_read, whole_line, newline_read, byte_read, mark_byte, packed, ends_panel, stored, text_read, plan_after, closing};
+ghost use Rattle.plantext.specs.Text.{onward, numbers_before, start_after, at_fault, digit_read, space_read, line_read, whole_line, newline_read, byte_read, mark_byte, packed, ends_panel, stored, text_read, plan_after, closing};
 
 use plantext::Reading;
 
@@ -21,28 +21,23 @@ fn numbers_before(line: usize) -> u8
     if line <= 1 { 0 } else { 4 }
 }
 
+// The line is no part of a plan. Lines are counted from 1; a line 0, with which no reading begins, tells no fault, as the definition has it.
 fn faulty(r: Reading) -> Reading
     ensures { result ≡ at_fault r }
 {
     Reading {
-        fault: Some(r.line),
+        fault: if r.line == 0 { None } else { Some(r.line) },
         ..r
     }
-}
-
-// The number that is being read, 0 before its first digit.
-fn so_far(r: Reading) -> u16
-    ensures { result ≡ so_far r }
-{
-    r.value.unwrap_or(0)
 }
 
 fn read_digit(r: Reading, digit: u8) -> Reading
     ensures { result ≡ digit_read r digit }
 {
-    match u16::try_from(u32::from(so_far(r)) * 10 + u32::from(digit)) {
+    match u16::try_from(u32::from(r.value) * 10 + u32::from(digit)) {
         Ok(value) => Reading {
-            value: Some(value),
+            begun: true,
+            value,
             ..r
         },
         Err(_) => faulty(r),
@@ -53,14 +48,15 @@ fn read_digit(r: Reading, digit: u8) -> Reading
 fn read_space(r: Reading) -> Reading
     ensures { result ≡ space_read r }
 {
-    if r.value.is_some() && r.numbers < numbers_before(r.line) {
+    if r.begun && r.numbers < numbers_before(r.line) {
         Reading {
             numbers: r.numbers + 1,
-            value: None,
+            begun: false,
+            value: 0,
             cfu: r.cfb,
             cfb: r.cfnr,
             cfnr: r.busy,
-            busy: so_far(r),
+            busy: r.value,
             ..r
         }
     } else {
@@ -72,7 +68,7 @@ fn read_space(r: Reading) -> Reading
 fn start_after(r: Reading) -> u16
     ensures { result ≡ start_after r }
 {
-    if r.line <= 1 { so_far(r) } else { r.start }
+    if r.line <= 1 { r.value } else { r.start }
 }
 
 fn next_line(r: Reading) -> Reading
@@ -82,7 +78,8 @@ fn next_line(r: Reading) -> Reading
         line: next_number(r.line),
         start: start_after(r),
         numbers: 0,
-        value: None,
+        begun: false,
+        value: 0,
         ..r
     }
 }
@@ -91,7 +88,7 @@ fn next_line(r: Reading) -> Reading
 fn whole_line(r: Reading) -> bool
     ensures { result ≡ whole_line r }
 {
-    r.value.is_some() && r.numbers == numbers_before(r.line)
+    r.begun && r.numbers == numbers_before(r.line)
 }
 
 // A newline ends a line that has all its numbers.
@@ -131,9 +128,9 @@ fn mark_byte(mark: u16) -> u16
 // The four numbers of the panel whose line was read.
 fn put_panel(plan: &mut [u16], at: usize, r: Reading)
     requires { at + 4 ≤ length plan.old }
-    ensures { plan.new ≡ wrote (packed r.cfu r.cfb r.cfnr r.busy (so_far r)) at plan.old }
+    ensures { plan.new ≡ wrote (packed r.cfu r.cfb r.cfnr r.busy r.value) at plan.old }
 {
-    let marks = mark_byte(r.busy) + mark_byte(so_far(r)) * 256;
+    let marks = mark_byte(r.busy) + mark_byte(r.value) * 256;
     plan[at..at + 4].copy_from_slice(&[r.cfu, r.cfb, r.cfnr, marks]);
 }
 
@@ -174,7 +171,7 @@ pub fn finish(r: Reading, plan: &mut [u16]) -> Reading
     ensures value { result ≡ text_read r (closing r) }
     ensures plan_after { plan.new ≡ plan_after r (closing r) plan.old }
 {
-    if r.value.is_some() || 0 < r.numbers || r.line <= 1 {
+    if r.begun || 0 < r.numbers || r.line <= 1 {
         store_panel(plan, r, b'\n');
         read_byte(r, b'\n')
     } else {

@@ -1,5 +1,5 @@
 -- A text in pieces, and a text with a fault. Assumes nothing.
-use Prim.Native.Nat.{ℕ, ◌+◌, ◌<◌}
+use Prim.Native.Nat.{ℕ, ◌+◌, ◌≤◌, ◌<◌}
 use mathlib.Core.Bool.{Bool, true, false}
 use mathlib.Core.Logic.{◌⊎◌, inl, inr, ⊎_elim}
 use mathlib.Core.List.{List, [], ◌∷◌, ◌++◌}
@@ -72,28 +72,32 @@ byte_view r byte e =
     (λ n. rw (eqb-true byte 10 n) (newline_view r e))
     (λ n. rw n (in_line (other_stays r byte e n)))
 
--- behind a faulty line
-pub stays_faulty : (r : Reading) (rest : List ℕ) → text_read (at_fault r) rest ≡ at_fault r
-stays_faulty r rest = fault_stays (at_fault r) rest (λ q. none-some _ (sym q))
+-- behind a faulty line; lines are counted from 1, and the fault of such a one is told
+module _ (r : Reading) (l : 1 ≤ r.line) where
+  pub faulty_told : (at_fault r).fault ≡ None → ⊥
+  faulty_told q = grind (arith, q, l)
+
+  pub stays_faulty : (rest : List ℕ) → text_read (at_fault r) rest ≡ at_fault r
+  stays_faulty rest = fault_stays (at_fault r) rest faulty_told
 
 -- a text with no fault is in the line behind its newlines
-lines_read : (text : List ℕ) (r : Reading) → r.fault ≡ None → r.line + length text < 18446744073709551616
+lines_read : (text : List ℕ) (r : Reading) → r.fault ≡ None → 1 ≤ r.line → r.line + length text < 18446744073709551616
     → (text_read r text).fault ≡ None → (text_read r text).line ≡ r.line + newlines_in text
 unfolding text_read newlines_in
-lines_read [] r e b h = sym (add-zero r.line)
-lines_read (byte ∷ rest) r e b h =
+lines_read [] r e l b h = sym (add-zero r.line)
+lines_read (byte ∷ rest) r e l b h =
     ⊎_elim
     (λ (q : byte_read r byte ≡ at_fault r).
-    let faulty : text_read (byte_read r byte) rest ≡ at_fault r = rw q (stays_faulty r rest) in
-    absurd (none-some _ (sym h ∙ ap (λ (x : Reading). x.fault) faulty)))
+    let faulty : text_read (byte_read r byte) rest ≡ at_fault r = rw q (stays_faulty r l rest) in
+    absurd (faulty_told r l (sym (ap (λ (x : Reading). x.fault) faulty) ∙ h)))
     (λ (q : ((byte_read r byte).fault ≡ None) × ((byte_read r byte).line ≡ when is_newline byte then onward r.line else r.line)).
     by_cases (is_newline byte)
     (λ n.
     let line : (byte_read r byte).line ≡ r.line + 1 = rw (n, lt-ltb r.line 18446744073709551615 (omega arith)) at q.1 in
-    rw n (omega (arith, lines_read rest (byte_read r byte) q.0 (omega arith) h)))
+    rw n (omega (arith, lines_read rest (byte_read r byte) q.0 (omega arith) (omega arith) h)))
     (λ n.
     let line : (byte_read r byte).line ≡ r.line = rw n at q.1 in
-    rw n (omega (arith, lines_read rest (byte_read r byte) q.0 (omega arith) h))))
+    rw n (omega (arith, lines_read rest (byte_read r byte) q.0 (omega arith) (omega arith) h))))
     (byte_view r byte e)
 
 pub fault_names_line : FaultNamesLine
@@ -101,8 +105,8 @@ unfolding text_read
 fault_names_line text byte b e h =
     let r = text_read beginning text in
     let last : text_read beginning (text ++ (byte ∷ [])) ≡ byte_read r byte = (pieces_as_one beginning text (byte ∷ []) []).0 in
-    let line : r.line ≡ 1 + newlines_in text = lines_read text beginning refl (omega arith) e in
+    let line : r.line ≡ 1 + newlines_in text = lines_read text beginning refl (omega arith) (omega arith) e in
     ⊎_elim
-    (λ (q : byte_read r byte ≡ at_fault r). rw (last, q) (ap Some (omega (arith, line))))
+    (λ (q : byte_read r byte ≡ at_fault r). rw (last, q) (grind (arith, line)))
     (λ (q : ((byte_read r byte).fault ≡ None) × ((byte_read r byte).line ≡ when is_newline byte then onward r.line else r.line)). absurd (h (rw last q.0)))
     (byte_view r byte e)

@@ -1,22 +1,21 @@
 -- A text that is read without a fault has the form of a plan. Assumes nothing.
 use Prim.Native.Nat.{ℕ, ◌+◌, ◌-◌, ◌*◌, ◌≤◌}
-use mathlib.Core.Bool.{true, false, ◌&&◌, ◌||◌, false≢true}
+use mathlib.Core.Bool.{Bool, true, false, ◌&&◌, ◌||◌}
 use mathlib.Core.Logic.{◌⊎◌, inl, inr, ⊎_elim}
 use mathlib.Core.List.{List, [], ◌∷◌, ◌++◌, append_assoc, append-nil}
 use mathlib.Core.Path.{◌≡◌, refl, sym, ap, ◌∙◌}
 use native.Mathlib.Omega.{arith}
 use borrow.Author.Tests.{lt-leb, leb-true, leb-false, eqb-true, ltb-false}
-use Rattle.std.specs.Prelude.{Option, Some, None, is_some, unwrap_or}
-use Rattle.std.proofs.lemmas.Option.{none-some}
+use Rattle.std.specs.Prelude.{None}
 use lib.Dec.{eqb, ltb, leb}
 use lib.ListN.{length, length-append}
 use Rattle.ground.proofs.Bools.{by_cases, nor_l, nor_r, is_false, from_false}
 use Rattle.ground.proofs.Walks.{both}
 use Rattle.digits.specs.Digits.{space, newline}
 use Rattle.plantext.specs.declared.Reading.{Reading}
-use Rattle.plantext.specs.Text.{beginning, begun, so_far, numbers_before, at_fault, digit_read, space_read, whole_line, newline_read, is_digit, is_newline, byte_read, text_read}
+use Rattle.plantext.specs.Text.{beginning, numbers_before, at_fault, digit_read, space_read, whole_line, newline_read, is_digit, is_newline, byte_read, text_read}
 use Rattle.plantext.specs.Form.{Digits, none, more, Number, Numbers, one, and, Lines, start, panel, whole, unended, ReadsOnly}
-use Rattle.plantext.proofs.Faults.{by_fault, untold, byte_behind, stays_faulty}
+use Rattle.plantext.proofs.Faults.{by_fault, untold, byte_behind, faulty_told, stays_faulty}
 use Rattle.plantext.proofs.LastLine.{onward_up}
 
 -- the whole lines before the line that is being read
@@ -30,9 +29,9 @@ data Spaced : ℕ → List ℕ → Type 0 where
   numbers : {k : ℕ} {a : List ℕ} → Numbers k a → Spaced k (a ++ space)
 
 -- the digits of the number that is being read
-data Begun : Option ℕ → List ℕ → Type 0 where
-  nothing : Begun None []
-  digits : {n : ℕ} {a : List ℕ} → Digits n a → 1 ≤ length a → n ≤ 65535 → Begun (Some n) a
+data Begun : Bool → List ℕ → Type 0 where
+  nothing : Begun false []
+  digits : {a : List ℕ} → 1 ≤ length a → Begun true a
 
 -- a reading without fault, and the text that it has read
 record Read (r : Reading) (done : List ℕ) : Type 0 where
@@ -42,26 +41,20 @@ record Read (r : Reading) (done : List ℕ) : Type 0 where
   all : done ≡ lines ++ (numbers ++ digits)
   before : Before r.line lines
   spaced : Spaced r.numbers numbers
-  begun : Begun r.value digits
+  value : Digits r.value digits
+  begun : Begun r.begun digits
+  fits : r.value ≤ 65535
   sound : r.fault ≡ None
 
 line_up : {line : ℕ} {a : List ℕ} → Before line a → 1 ≤ line
 line_up nothing = omega arith
 line_up (lines h w) = omega arith
 
--- so far they are those of a value
-value_digits : {o : Option ℕ} {a : List ℕ} → Begun o a → Digits (unwrap_or o 0) a
-value_digits nothing = none
-value_digits (digits d h f) = d
+some_digits : {a : List ℕ} → Begun true a → 1 ≤ length a
+some_digits (digits h) = h
 
--- and those of a number, once there is one
-number_begun : {o : Option ℕ} {a : List ℕ} → Begun o a → is_some o ≡ true → Number (unwrap_or o 0) a
-number_begun nothing t = absurd (false≢true t)
-number_begun (digits d h f) t = record { digits = d; some = h; fits = f }
-
-no_digits : {o : Option ℕ} {a : List ℕ} → Begun o a → is_some o ≡ false → a ≡ []
-no_digits nothing f = refl
-no_digits (digits d h k) f = absurd (false≢true (sym f))
+no_digits : {a : List ℕ} → Begun false a → a ≡ []
+no_digits nothing = refl
 
 whole_lines : {line : ℕ} {a : List ℕ} → Before line a → 2 ≤ line → Lines a
 whole_lines nothing h = absurd (omega arith)
@@ -91,8 +84,8 @@ GoesOn r done byte next = (next ≡ at_fault r) ⊎ Read next (done ++ (byte ∷
 
 module _ (r : Reading) (done : List ℕ) (w : Read r done) where
   -- the number that is being read, once it has a digit
-  number : begun r ≡ true → Number (so_far r) w.digits
-  number t = number_begun w.begun t
+  number : r.begun ≡ true → Number r.value w.digits
+  number t = record { digits = w.value; some = some_digits (rw t at w.begun); fits = w.fits }
 
   -- a byte more
   longer : (byte : ℕ) → done ++ (byte ∷ []) ≡ w.lines ++ ((w.numbers ++ w.digits) ++ (byte ∷ []))
@@ -104,7 +97,7 @@ module _ (r : Reading) (done : List ℕ) (w : Read r done) where
       let low = leb-true 48 byte parts.0 in
       let high = leb-true byte 57 parts.1 in
       let e : 48 + (byte - 48) ≡ byte = omega arith in
-      by_cases (leb (so_far r * 10 + (byte - 48)) 65535)
+      by_cases (leb (r.value * 10 + (byte - 48)) 65535)
       (λ k.
       rw k
       (inr record {
@@ -114,14 +107,16 @@ module _ (r : Reading) (done : List ℕ) (w : Read r done) where
         all = longer byte ∙ rw append_assoc;
         before = w.before;
         spaced = w.spaced;
-        begun = digits (rw e at (more (byte - 48) (omega arith) (value_digits w.begun))) (omega (arith, length-append w.digits (byte ∷ []))) (leb-true _ _ k);
+        value = rw e at (more (byte - 48) (omega arith) w.value);
+        begun = digits {a = w.digits ++ (byte ∷ [])} (omega (arith, length-append w.digits (byte ∷ [])));
+        fits = leb-true _ _ k;
         sound = w.sound;
       }))
       (λ k. rw k (inl refl))
 
   space_kept : GoesOn r done 32 (space_read r)
   space_kept =
-      by_cases (begun r && ltb r.numbers (numbers_before r.line))
+      by_cases (r.begun && ltb r.numbers (numbers_before r.line))
       (λ k.
       rw k
       (inr record {
@@ -130,8 +125,10 @@ module _ (r : Reading) (done : List ℕ) (w : Read r done) where
         digits = [];
         all = longer 32 ∙ rw append-nil;
         before = w.before;
-        spaced = numbers (one_more w.spaced (number (both (begun r) _ k).0));
+        spaced = numbers (one_more w.spaced (number (both r.begun _ k).0));
+        value = none;
         begun = nothing;
+        fits = omega arith;
         sound = w.sound;
       }))
       (λ k. rw k (inl refl))
@@ -139,7 +136,7 @@ module _ (r : Reading) (done : List ℕ) (w : Read r done) where
   -- a line that has all its numbers is one more
   newline_ends : whole_line r ≡ true → Lines (done ++ newline)
   newline_ends k =
-      let parts = both (begun r) (eqb r.numbers (numbers_before r.line)) k in
+      let parts = both r.begun (eqb r.numbers (numbers_before r.line)) k in
       let e : r.numbers ≡ numbers_before r.line = eqb-true _ _ parts.1 in
       rw (longer 10) (line_ends w.before (rw e at (one_more w.spaced (number parts.0))))
 
@@ -155,7 +152,9 @@ module _ (r : Reading) (done : List ℕ) (w : Read r done) where
         all = sym (append-nil (done ++ newline));
         before = lines (onward_up r.line (line_up w.before)) (newline_ends k);
         spaced = nothing;
+        value = none;
         begun = nothing;
+        fits = omega arith;
         sound = w.sound;
       }))
       (λ k. rw k (inl refl))
@@ -182,8 +181,8 @@ text_read_lem [] r done w h = rw append-nil w
 text_read_lem (byte ∷ rest) r done w h =
     ⊎_elim
     (λ (q : byte_read r byte ≡ at_fault r).
-    let faulty : text_read (byte_read r byte) rest ≡ at_fault r = rw q (stays_faulty r rest) in
-    absurd (none-some _ (sym h ∙ ap (λ (x : Reading). x.fault) faulty)))
+    let faulty : text_read (byte_read r byte) rest ≡ at_fault r = rw q (stays_faulty r (line_up w.before) rest) in
+    absurd (faulty_told r (line_up w.before) (sym (ap (λ (x : Reading). x.fault) faulty) ∙ h)))
     (λ (q : Read (byte_read r byte) (done ++ (byte ∷ []))). rw append_assoc at (text_read_lem rest (byte_read r byte) (done ++ (byte ∷ [])) q h))
     (byte_kept r done w byte)
 
@@ -196,7 +195,9 @@ at_beginning = record {
   all = refl;
   before = nothing;
   spaced = nothing;
+  value = none;
   begun = nothing;
+  fits = omega arith;
   sound = refl;
 }
 
@@ -206,18 +207,18 @@ unfolding byte_read
 closed r text w h =
     by_cases (whole_line r)
     (newline_ends r text w)
-    (λ f. absurd (none-some _ (sym (rw (w.sound, f) at h))))
+    (λ f. absurd (faulty_told r (line_up w.before) (rw (w.sound, f) at h)))
 
 -- and where none is
-nothing_left : (r : Reading) (text : List ℕ) → Read r text → begun r || ltb 0 r.numbers || leb r.line 1 ≡ false → Lines text
+nothing_left : (r : Reading) (text : List ℕ) → Read r text → r.begun || ltb 0 r.numbers || leb r.line 1 ≡ false → Lines text
 nothing_left r text w f =
     let n = ltb 0 r.numbers in
     let l = leb r.line 1 in
-    let none_of = from_false (begun r || n || l) f in
-    let neither = nor_l (begun r || n) l none_of in
-    let b : w.digits ≡ [] = no_digits w.begun (is_false (begun r) (nor_l (begun r) n neither)) in
-    let k : w.numbers ≡ [] = no_numbers w.spaced (ltb-false _ _ (is_false n (nor_r (begun r) n neither))) in
-    rw (w.all, k, b, append-nil) (whole_lines w.before (leb-false _ _ (is_false l (nor_r (begun r || n) l none_of))))
+    let none_of = from_false (r.begun || n || l) f in
+    let neither = nor_l (r.begun || n) l none_of in
+    let b : w.digits ≡ [] = no_digits (rw (is_false r.begun (nor_l r.begun n neither)) at w.begun) in
+    let k : w.numbers ≡ [] = no_numbers w.spaced (ltb-false _ _ (is_false n (nor_r r.begun n neither))) in
+    rw (w.all, k, b, append-nil) (whole_lines w.before (leb-false _ _ (is_false l (nor_r (r.begun || n) l none_of))))
 
 -- behind a fault there is none without
 pub none_before : (r : Reading) (byte : ℕ) → (byte_read r byte).fault ≡ None → r.fault ≡ None
@@ -227,7 +228,7 @@ pub reads_only : ReadsOnly
 unfolding text_read
 reads_only text h =
     let r = text_read beginning text in
-    by_cases (begun r || ltb 0 r.numbers || leb r.line 1)
+    by_cases (r.begun || ltb 0 r.numbers || leb r.line 1)
     (λ t.
     let last : (byte_read r 10).fault ≡ None = rw t at h in
     unended (closed r text (text_read_lem text beginning [] at_beginning (none_before r 10 last)) last))

@@ -7,14 +7,13 @@ use native.Mathlib.Omega.{arith}
 use borrow.Author.Tests.{lt-leb, ltb-false}
 use lib.Dec.{ltb}
 use Rattle.std.specs.Prelude.{None}
-use Rattle.std.proofs.lemmas.Option.{none-some}
 use Rattle.ground.specs.Choice.{when◌then◌else◌}
 use Rattle.ground.proofs.Bools.{by_cases}
 use Rattle.digits.specs.Digits.{newline}
 use Rattle.plantext.specs.declared.Reading.{Reading}
 use Rattle.plantext.specs.Text.{beginning, onward, at_fault, is_newline, whole_line, byte_read, stored, text_read, plan_after, closing}
 use Rattle.plantext.specs.Statements.{LastNewline}
-use Rattle.plantext.proofs.Faults.{by_fault, told, pieces_as_one, fault_stays, byte_behind, byte_view, stays_faulty}
+use Rattle.plantext.proofs.Faults.{by_fault, told, pieces_as_one, fault_stays, byte_behind, byte_view, faulty_told, stays_faulty}
 
 -- behind a fault the plan stays
 none_stored_behind : (r : Reading) (byte : ℕ) (plan : List ℕ) → (r.fault ≡ None → ⊥) → stored r byte plan ≡ plan
@@ -66,7 +65,7 @@ module _ (r : Reading) (l : 1 ≤ r.line) where
       (λ t.
       ⊎_elim
       (λ (q : closing (byte_read r 10) ≡ []). rw q (refl, λ plan. refl))
-      (λ (q : byte_read r 10 ≡ at_fault r). rw q (stays_faulty r (closing (at_fault r)), λ plan. plan_stays (at_fault r) (closing (at_fault r)) plan (λ z. none-some _ (sym z))))
+      (λ (q : byte_read r 10 ≡ at_fault r). rw q (stays_faulty r l (closing (at_fault r)), λ plan. plan_stays (at_fault r) (closing (at_fault r)) plan (faulty_told r l)))
       (newline_closes r l t))
       (λ f. rw (byte_behind r 10 f) (fault_stays r (closing r) f, λ plan. plan_stays r (closing r) plan f))
 

@@ -1,11 +1,11 @@
 -- Every plan that is written in this form reads back as itself. Assumes nothing.
 use Prim.Native.Nat.{ℕ, zero, suc, ◌+◌, ◌-◌, ◌*◌, ◌/◌, ◌%◌, ◌^◌, ◌≤◌, ◌<◌}
-use mathlib.Core.Bool.{◌&&◌}
+use mathlib.Core.Bool.{Bool, true, false, ◌&&◌}
 use mathlib.Core.List.{List, [], ◌∷◌, ◌++◌}
 use mathlib.Core.Path.{◌≡◌, refl, ap, ◌∙◌}
+use Rattle.std.specs.Prelude.{None}
 use native.Mathlib.Nat.{add-zero, zero-add}
 use native.Mathlib.Omega.{arith}
-use Rattle.std.specs.Prelude.{Option, Some, None, unwrap_or}
 use borrow.Author.Tests.{lt-ltb, le-leb, lt-leb, ltb-true, leb-true, ne_eqb}
 use lib.Dec.{T, ltb, leb}
 use lib.ListN.{length, take, drop, length-append, length-take, length-drop}
@@ -22,10 +22,11 @@ use Rattle.plantext.specs.Statements.{Row, row_text, rows_text, plan_text, numbe
 use Rattle.plantext.proofs.Faults.{pieces_as_one}
 
 -- a reading with no fault
-abbrev here : ℕ → ℕ → Option ℕ → ℕ → ℕ → ℕ → ℕ → ℕ → Reading
-here line numbers value start cfu cfb cfnr busy = record {
+abbrev here : ℕ → ℕ → Bool → ℕ → ℕ → ℕ → ℕ → ℕ → ℕ → Reading
+here line numbers begun value start cfu cfb cfnr busy = record {
   line = line;
   numbers = numbers;
+  begun = begun;
   value = value;
   start = start;
   cfu = cfu;
@@ -50,36 +51,35 @@ fit : (n : ℕ) → T (leb n 65535) → n ≤ 65535
 fit n t = leb-true n 65535 (is_true (leb n 65535) t)
 
 module _ (line numbers start cfu cfb cfnr busy : ℕ) (plan : List ℕ) where
-  one_digit : (value : Option ℕ) (d : ℕ) → d < 10 → unwrap_or value 0 * 10 + d ≤ 65535
-      → Leads (digit d ∷ []) (here line numbers value start cfu cfb cfnr busy) plan
-      (here line numbers (Some (unwrap_or value 0 * 10 + d)) start cfu cfb cfnr busy) plan
+  one_digit : (begun : Bool) (value d : ℕ) → d < 10 → value * 10 + d ≤ 65535
+      → Leads (digit d ∷ []) (here line numbers begun value start cfu cfb cfnr busy) plan (here line numbers true (value * 10 + d) start cfu cfb cfnr busy) plan
   unfolding text_read plan_after byte_read stored
-  one_digit value d h k =
+  one_digit begun value d h k =
       let e : 48 + d - 48 ≡ d = omega arith in
       record {
-        reading = rw (le-leb 48 (48 + d) (omega arith), le-leb (48 + d) 57 (omega arith), e, le-leb (unwrap_or value 0 * 10 + d) 65535 k);
+        reading = rw (le-leb 48 (48 + d) (omega arith), le-leb (48 + d) 57 (omega arith), e, le-leb (value * 10 + d) 65535 k);
         panels = rw (ne_eqb (48 + d) 10 (λ q. omega (arith, q)));
       }
 
   digits_read : (more n : ℕ) → n < 10 ^ suc more → n ≤ 65535
-      → Leads (digits (suc more) n) (here line numbers None start cfu cfb cfnr busy) plan (here line numbers (Some n) start cfu cfb cfnr busy) plan
+      → Leads (digits (suc more) n) (here line numbers false 0 start cfu cfb cfnr busy) plan (here line numbers true n start cfu cfb cfnr busy) plan
   unfolding digits
-  digits_read zero n h k = rw (lt-ltb n 10 (omega arith)) (rw zero-add at (one_digit None n (omega arith) (omega arith)))
+  digits_read zero n h k = rw (lt-ltb n 10 (omega arith)) (rw zero-add at (one_digit false 0 n (omega arith) (omega arith)))
   digits_read (suc more) n h k =
       by_cases (ltb n 10)
-      (λ t. rw t (rw zero-add at (one_digit None n (ltb-true n 10 t) (omega arith))))
+      (λ t. rw t (rw zero-add at (one_digit false 0 n (ltb-true n 10 t) (omega arith))))
       (λ f.
       let e : n / 10 * 10 + n % 10 ≡ n = omega arith in
-      rw f (then (digits_read more (n / 10) (omega arith) (omega arith)) (rw e at (one_digit (Some (n / 10)) (n % 10) (omega arith) (omega arith)))))
+      rw f (then (digits_read more (n / 10) (omega arith) (omega arith)) (rw e at (one_digit true (n / 10) (n % 10) (omega arith) (omega arith)))))
 
   decimal_read : (n : ℕ) → n ≤ 65535
-      → Leads (decimal n) (here line numbers None start cfu cfb cfnr busy) plan (here line numbers (Some n) start cfu cfb cfnr busy) plan
+      → Leads (decimal n) (here line numbers false 0 start cfu cfb cfnr busy) plan (here line numbers true n start cfu cfb cfnr busy) plan
   decimal_read n k = digits_read 19 n (omega arith) k
 
 -- in a panel's line
 module _ (line : ℕ) (h : 2 ≤ line) (start : ℕ) (plan : List ℕ) where
   a_space : (numbers value cfu cfb cfnr busy : ℕ) → numbers < 4
-      → Leads space (here line numbers (Some value) start cfu cfb cfnr busy) plan (here line (numbers + 1) None start cfb cfnr busy value) plan
+      → Leads space (here line numbers true value start cfu cfb cfnr busy) plan (here line (numbers + 1) false 0 start cfb cfnr busy value) plan
   unfolding text_read plan_after byte_read stored
   a_space numbers value cfu cfb cfnr busy k = record {
     reading = rw (lt-leb line 1 (omega arith), lt-ltb numbers 4 k);
@@ -87,7 +87,7 @@ module _ (line : ℕ) (h : 2 ≤ line) (start : ℕ) (plan : List ℕ) where
   }
 
   a_newline : (value cfu cfb cfnr busy : ℕ) → line < 18446744073709551615 → line ≤ length plan / 4 + 1
-      → Leads newline (here line 4 (Some value) start cfu cfb cfnr busy) plan (here (line + 1) 0 None start cfu cfb cfnr busy)
+      → Leads newline (here line 4 true value start cfu cfb cfnr busy) plan (here (line + 1) 0 false 0 start cfu cfb cfnr busy)
       (wrote (packed cfu cfb cfnr busy value) (place_of line) plan)
   unfolding text_read plan_after byte_read stored
   a_newline value cfu cfb cfnr busy k m = record {
@@ -96,7 +96,7 @@ module _ (line : ℕ) (h : 2 ≤ line) (start : ℕ) (plan : List ℕ) where
   }
 
   row_read : (p : Row) (cfu cfb cfnr busy : ℕ) → T (row_fits p) → line < 18446744073709551615 → line ≤ length plan / 4 + 1
-      → Leads (row_text p) (here line 0 None start cfu cfb cfnr busy) plan (here (line + 1) 0 None start p.cfu p.cfb p.cfnr p.busy)
+      → Leads (row_text p) (here line 0 false 0 start cfu cfb cfnr busy) plan (here (line + 1) 0 false 0 start p.cfu p.cfb p.cfnr p.busy)
       (wrote (packed p.cfu p.cfb p.cfnr p.busy p.unattended) (place_of line) plan)
   row_read p cfu cfb cfnr busy f k m =
       let u = leb p.cfu 65535 in
@@ -130,16 +130,16 @@ numbers_long (p ∷ rest) = omega (arith, numbers_long rest)
 
 -- at the beginning of a line
 abbrev AtLine : ℕ → ℕ → Reading → Type 0
-AtLine line start r = r ≡ here line 0 None start r.cfu r.cfb r.cfnr r.busy
+AtLine line start r = r ≡ here line 0 false 0 start r.cfu r.cfb r.cfnr r.busy
 
 rows_read : (rows : List Row) (line start cfu cfb cfnr busy : ℕ) (plan : List ℕ) → T (all row_fits rows) → 2 ≤ line
     → line + length rows < 18446744073709551616 → place_of line + length rows * 4 ≤ length plan
-    → AtLine (line + length rows) start (text_read (here line 0 None start cfu cfb cfnr busy) (rows_text rows))
-    × (plan_after (here line 0 None start cfu cfb cfnr busy) (rows_text rows) plan ≡ wrote (numbers_of rows) (place_of line) plan)
+    → AtLine (line + length rows) start (text_read (here line 0 false 0 start cfu cfb cfnr busy) (rows_text rows))
+    × (plan_after (here line 0 false 0 start cfu cfb cfnr busy) (rows_text rows) plan ≡ wrote (numbers_of rows) (place_of line) plan)
 unfolding text_read plan_after rows_text numbers_of all
 rows_read [] line start cfu cfb cfnr busy plan f h k m = (rw add-zero, paste-zero plan (place_of line) [])
 rows_read (p ∷ rest) line start cfu cfb cfnr busy plan f h k m =
-    let r = here line 0 None start cfu cfb cfnr busy in
+    let r = here line 0 false 0 start cfu cfb cfnr busy in
     let now = packed p.cfu p.cfb p.cfnr p.busy p.unattended in
     let plan' = wrote now (place_of line) plan in
     let row = row_read line h start plan p cfu cfb cfnr busy (and_l (row_fits p) (all row_fits rest) f) (omega arith) (omega arith) in
@@ -151,11 +151,11 @@ rows_read (p ∷ rest) line start cfu cfb cfnr busy plan f h k m =
     (rw (whole.0, row.reading) (rw e at on.0), rw (whole.1, row.reading, row.panels) (on.1 ∙ rw q (wrote_on now (place_of line) plan (omega arith) (numbers_of rest))))
 
 -- the first line
-first_ends : (start : ℕ) (plan : List ℕ) → Leads newline (here 1 0 (Some start) 0 0 0 0 0) plan (here 2 0 None start 0 0 0 0) plan
+first_ends : (start : ℕ) (plan : List ℕ) → Leads newline (here 1 0 true start 0 0 0 0 0) plan (here 2 0 false 0 start 0 0 0 0) plan
 unfolding text_read plan_after byte_read stored
 first_ends start plan = record { reading = refl; panels = refl }
 
-start_read : (start : ℕ) (plan : List ℕ) → start ≤ 65535 → Leads (decimal start ++ newline) beginning plan (here 2 0 None start 0 0 0 0) plan
+start_read : (start : ℕ) (plan : List ℕ) → start ≤ 65535 → Leads (decimal start ++ newline) beginning plan (here 2 0 false 0 start 0 0 0 0) plan
 start_read start plan h = then (decimal_read 1 0 0 0 0 0 0 plan start h) (first_ends start plan)
 
 -- where a line ended nothing is left to close

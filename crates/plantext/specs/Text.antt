@@ -1,21 +1,13 @@
 -- The text of a plan: the start panel's number in the first line, then a line for each panel, `cfu cfb cfnr busy unattended`.
 -- Numbers are decimal, up to 65,535, with one space between, and a newline ends each line; the last one may lack it.
-use Rattle.std.specs.Prelude.{ℕ, ◌+◌, ◌-◌, ◌*◌, ◌/◌, min, Bool, ◌&&◌, ◌||◌, not, List, [], ◌∷◌, Some, None, is_some, is_none, unwrap_or, eqb, ltb, leb, length}
+use Rattle.std.specs.Prelude.{ℕ, ◌+◌, ◌-◌, ◌*◌, ◌/◌, min, Bool, true, false, ◌&&◌, ◌||◌, not, List, [], ◌∷◌, Some, None, is_none, eqb, ltb, leb, length}
 use Rattle.ground.specs.Choice.{when◌then◌else◌}
 use Rattle.digits.specs.Written.{wrote}
 use Rattle.plantext.specs.declared.Reading.{Reading}
 
 -- before the first byte
 abbrev pub beginning : Reading
-beginning = record { line = 1; numbers = 0; value = None; start = 0; cfu = 0; cfb = 0; cfnr = 0; busy = 0; fault = None }
-
--- the first digit of a number is there
-abbrev pub begun : Reading → Bool
-begun r = is_some r.value
-
--- the number that is being read, 0 before its first digit
-abbrev pub so_far : Reading → ℕ
-so_far r = unwrap_or r.value 0
+beginning = record { line = 1; numbers = 0; begun = false; value = 0; start = 0; cfu = 0; cfb = 0; cfnr = 0; busy = 0; fault = None }
 
 -- the number of the line behind a line, as far as 64 bits go
 abbrev pub onward : ℕ → ℕ
@@ -25,18 +17,19 @@ onward line = when ltb line 18446744073709551615 then line + 1 else line
 abbrev pub numbers_before : ℕ → ℕ
 numbers_before line = when leb line 1 then 0 else 4
 
--- the line that is being read is no part of a plan
+-- the line that is being read is no part of a plan; lines are counted from 1, and a line 0 tells no fault
 abbrev pub at_fault : Reading → Reading
 at_fault r = record {
   line = r.line;
   numbers = r.numbers;
+  begun = r.begun;
   value = r.value;
   start = r.start;
   cfu = r.cfu;
   cfb = r.cfb;
   cfnr = r.cfnr;
   busy = r.busy;
-  fault = Some r.line;
+  fault = when eqb r.line 0 then None else Some r.line;
 }
 
 -- "a number over 65,535" is a fault
@@ -46,10 +39,11 @@ greatest = 65535
 -- a digit, by its value
 abbrev pub digit_read : Reading → ℕ → Reading
 digit_read r digit =
-    when leb (so_far r * 10 + digit) greatest then record {
+    when leb (r.value * 10 + digit) greatest then record {
       line = r.line;
       numbers = r.numbers;
-      value = Some (so_far r * 10 + digit);
+      begun = true;
+      value = r.value * 10 + digit;
       start = r.start;
       cfu = r.cfu;
       cfb = r.cfb;
@@ -64,29 +58,31 @@ abbrev pub number_read : Reading → Reading
 number_read r = record {
   line = r.line;
   numbers = r.numbers + 1;
-  value = None;
+  begun = false;
+  value = 0;
   start = r.start;
   cfu = r.cfb;
   cfb = r.cfnr;
   cfnr = r.busy;
-  busy = so_far r;
+  busy = r.value;
   fault = r.fault;
 }
 
 -- a space ends a number that is not the last of its line
 abbrev pub space_read : Reading → Reading
-space_read r = when begun r && ltb r.numbers (numbers_before r.line) then number_read r else at_fault r
+space_read r = when r.begun && ltb r.numbers (numbers_before r.line) then number_read r else at_fault r
 
 -- the first line's number is the start panel
 abbrev pub start_after : Reading → ℕ
-start_after r = when leb r.line 1 then so_far r else r.start
+start_after r = when leb r.line 1 then r.value else r.start
 
 -- the next line begins
 abbrev pub line_read : Reading → Reading
 line_read r = record {
   line = onward r.line;
   numbers = 0;
-  value = None;
+  begun = false;
+  value = 0;
   start = start_after r;
   cfu = r.cfu;
   cfb = r.cfb;
@@ -97,7 +93,7 @@ line_read r = record {
 
 -- the line has all its numbers
 abbrev pub whole_line : Reading → Bool
-whole_line r = begun r && eqb r.numbers (numbers_before r.line)
+whole_line r = r.begun && eqb r.numbers (numbers_before r.line)
 
 -- a newline ends a line that has all its numbers
 abbrev pub newline_read : Reading → Reading
@@ -143,7 +139,7 @@ has_room line plan = leb line (length plan / 4 + 1)
 
 -- the plan with the panel whose line was read
 abbrev pub panel_stored : Reading → List ℕ → List ℕ
-panel_stored r plan = wrote (packed r.cfu r.cfb r.cfnr r.busy (so_far r)) (place_of r.line) plan
+panel_stored r plan = wrote (packed r.cfu r.cfb r.cfnr r.busy r.value) (place_of r.line) plan
 
 -- the plan behind a byte
 unfoldable pub stored : Reading → ℕ → List ℕ → List ℕ
@@ -161,7 +157,7 @@ plan_after r (byte ∷ rest) plan = plan_after (byte_read r byte) rest (stored r
 
 -- at the text's end a line that is begun ends as by a newline; so does the first, since an empty text is no plan
 abbrev pub closing : Reading → List ℕ
-closing r = when begun r || ltb 0 r.numbers || leb r.line 1 then 10 ∷ [] else []
+closing r = when r.begun || ltb 0 r.numbers || leb r.line 1 then 10 ∷ [] else []
 
 -- the whole text, to its end
 abbrev pub whole_read : List ℕ → Reading
