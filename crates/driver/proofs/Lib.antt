@@ -1,2 +1,3 @@
 pub mod Beside
 pub mod Turns
+pub mod Determined
