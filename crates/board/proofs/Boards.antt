@@ -5,7 +5,7 @@ use mathlib.Core.List.{List, [], ◌∷◌, ◌++◌}
 use mathlib.Core.Path.{◌≡◌, refl, sym, ap, ◌∙◌}
 use native.Mathlib.Nat.{le_of_suc-le-suc, not-suc-le-zero}
 use native.Mathlib.Omega.{arith}
-use borrow.Author.Tests.{le-ltb, lt-ltb, ltb-false, leb-true, not-true}
+use borrow.Author.Tests.{le-ltb, lt-ltb, ltb-true, ltb-false, leb-true, not-true}
 use lib.Dec.{ltb, leb}
 use lib.ListN.{length, set, take, drop, length-take, take-append-drop}
 use Rattle.ground.specs.Lists.{all}
@@ -92,6 +92,12 @@ back_done b s i x h = rw (set_beginning b.len b.calls i x.call h)
 pub tested_short : (b : Board) → sound_board b ≡ true → b.len ≤ 64
 tested_short b h = ltb-false 64 b.len (not-true (ltb 64 b.len) (both (not (ltb 64 b.len)) (sound b.station (table_of b)) h).0)
 
--- what is read is the record at the place where the table has it
+-- what is read is a record of the array, and that of the table where the table has the place
+within_small : (place len : ℕ) → len ≤ 64 → within place len < 64
+within_small place len h = by_cases (ltb place len) (λ t. rw t (let l = ltb-true place len t in omega arith)) (λ f. rw f (omega arith))
+
 pub within_near : (place len : ℕ) → place < len → within place len ≡ place
 within_near place len l = rw (lt-ltb place len l)
+
+pub in_array : (b : Board) (place i : ℕ) → sound_board b ≡ true → i ≡ within place b.len → i < 64
+in_array b place i ok e = rw e (within_small place b.len (tested_short b ok))

@@ -14,7 +14,7 @@ use Rattle.digits.specs.Digits.{decimal, space, newline}
 use Rattle.digits.proofs.Digits.{decimal_within}
 use Rattle.printout.specs.Line.{column, messages, line}
 
-column_within : (k none n : ℕ) → n < 10 ^ suc k → length (space ++ column none n) ≤ suc (suc k)
+pub column_within : (k none n : ℕ) → n < 10 ^ suc k → length (space ++ column none n) ≤ suc (suc k)
 column_within k none n h = by_cases (eqb n none) (λ t. rw t (omega arith)) (λ f. rw f (omega (arith, decimal_within k n h)))
 
 module _ (none n : ℕ) where

@@ -1,4 +1,4 @@
-use Rattle.std.proofs.Common.{◌≡◌, length, ◌∙◌, arith}
+use Rattle.std.proofs.Common.{◌≡◌, length, arith}
 use Rattle.board.proofs.Boards.{board_tested, board_unfit}
 use Rattle.board.proofs.sound_board.Goals as goal
 
@@ -10,4 +10,5 @@ returns-then-in_bounds c =
 pub returns-else-in_bounds : goal.returns-else-in_bounds
 returns-else-in_bounds c =
     let long : length c.args.b.calls ≡ 64 = omega arith in
-    c.if-in_bounds.false ∙ board_unfit c.args.b _ long c.in_bounds.ensures c.if-in_bounds.false
+    let u = board_unfit c.args.b _ long c.in_bounds.ensures c.if-in_bounds.false in
+    grind (arith, c.if-in_bounds.false, u)
